@@ -1,0 +1,6 @@
+pub mod Counts
+pub mod Lists
+pub mod Ranges
+pub mod Sorting
+pub mod Residues
+pub mod OnePlace

@@ -1,0 +1,35 @@
+-- Orthogonal arrays, and the blocks that their rows stand for.
+use Rattle.std.proofs.Common.{◌&&◌}
+use Rattle.std.specs.Prelude.{All, List, count_by, length, map, slice_index, ℕ, ◌%◌, ◌*◌, ◌+◌, ◌<◌, ◌==◌, ◌≡◌}
+use Rattle.counting.specs.Sums.{list_below}
+
+-- point x of group i, where a group has n points
+unfoldable pub place : ℕ → ℕ → ℕ → ℕ
+place n i x = i * n + x
+
+-- the block of the row f 0, f 1, .., f (k - 1): its entry in column j is a point of group j
+unfoldable pub row_block : ℕ → ℕ → (ℕ → ℕ) → List ℕ
+row_block k n f = list_below k (λ j. place n j (f j))
+
+-- the blocks of rows of k symbols below n
+unfoldable pub blocks_of_rows : ℕ → ℕ → List (List ℕ) → List (List ℕ)
+blocks_of_rows k n R = map (λ r. row_block k n (λ j. slice_index r j)) R
+
+-- the rows of a block list whose blocks hold one point of each group, in the order of the groups
+unfoldable pub rows_of_blocks : ℕ → List (List ℕ) → List (List ℕ)
+rows_of_blocks n B = map (map (λ x. x % n)) B
+
+-- how many rows have a in column i and b in column j
+unfoldable pub agree : List (List ℕ) → ℕ → ℕ → ℕ → ℕ → ℕ
+agree R i j a b = count_by (λ r. (slice_index r i == a) && (slice_index r j == b)) R
+
+-- k symbols below n
+pub record IsRow (k n : ℕ) (r : List ℕ) : Type 0 where
+  pub size : length r ≡ k
+  pub below : All (λ a. a < n) r
+
+-- an orthogonal array: in two different columns each pair of symbols stands in exactly one row
+pub record IsOa (R : List (List ℕ)) (k n : ℕ) : Type 0 where
+  pub count : length R ≡ n * n
+  pub rows : All (IsRow k n) R
+  pub pairs : (i j a b : ℕ) → i < j → j < k → a < n → b < n → agree R i j a b ≡ 1

@@ -1,0 +1,11 @@
+pub mod Canonical
+pub mod Blocks
+pub mod Arrays
+pub mod Squares
+pub mod Polynomials
+pub mod Digits
+pub mod Fields
+pub mod Limits
+pub mod Rules
+pub mod Steps
+pub mod Meets

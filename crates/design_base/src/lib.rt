@@ -1,0 +1,19 @@
+// What the crates above speak of: questions, their answers, and the designs that the questions ask for.
+#![tactic(auto)]
+
+mod limits;
+mod query;
+mod refusal;
+mod rule;
+mod step;
+mod verdict;
+
+pub use limits::{
+    COVER_MAX, DERIVATION_MAX, DIGITS_MAX, GDD_K_MAX, INPUT_MAX, LINE_MAX, PBD_S_MAX, POINTS_MAX,
+    TD_K_MAX, TD_N_MAX, WORKERS_MAX,
+};
+pub use query::{Group, Query, TableAsk};
+pub use refusal::Memory;
+pub use rule::Rule;
+pub use step::Step;
+pub use verdict::{Criterion, Verdict};
