@@ -2,6 +2,7 @@ pub mod Canonical
 pub mod Blocks
 pub mod Arrays
 pub mod Squares
+pub mod Rings
 pub mod Polynomials
 pub mod Digits
 pub mod Fields

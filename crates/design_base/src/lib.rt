@@ -9,8 +9,8 @@ mod step;
 mod verdict;
 
 pub use limits::{
-    COVER_MAX, DERIVATION_MAX, DIGITS_MAX, GDD_K_MAX, INPUT_MAX, LINE_MAX, PBD_S_MAX, POINTS_MAX,
-    TD_K_MAX, TD_N_MAX, WORKERS_MAX,
+    COVER_MAX, DERIVATION_MAX, DIGITS_MAX, GDD_K_MAX, INPUT_MAX, LINE_MAX, PACKED_MAX,
+    PARAMETER_MAX, PBD_S_MAX, POINTS_MAX, PREMISES_MAX, TD_K_MAX, TD_N_MAX, WORKERS_MAX,
 };
 pub use query::{Group, Query, TableAsk};
 pub use refusal::Memory;
