@@ -6,3 +6,5 @@ pub mod Places
 pub mod Rows
 pub mod Groups
 pub mod Solutions
+pub mod Orders
+pub mod Samples

@@ -1,6 +1,6 @@
--- Orthogonal arrays, and the blocks that their rows stand for.
+-- Orthogonal arrays, as in the Handbook of Combinatorial Designs, and the blocks that their rows stand for.
+use Rattle.std.specs.Prelude.{ℕ, List, ◌+◌, ◌*◌, ◌%◌, ◌==◌, ◌<◌, ◌≡◌, All, length, count_by, map, slice_index}
 use Rattle.std.proofs.Common.{◌&&◌}
-use Rattle.std.specs.Prelude.{All, List, count_by, length, map, slice_index, ℕ, ◌%◌, ◌*◌, ◌+◌, ◌<◌, ◌==◌, ◌≡◌}
 use Rattle.counting.specs.Sums.{list_below}
 
 -- point x of group i, where a group has n points
@@ -13,22 +13,23 @@ row_block k n f = list_below k (λ j. place n j (f j))
 
 -- the blocks of rows of k symbols below n
 unfoldable pub blocks_of_rows : ℕ → ℕ → List (List ℕ) → List (List ℕ)
-blocks_of_rows k n R = map (λ r. row_block k n (λ j. slice_index r j)) R
+blocks_of_rows k n R = map (λ row. row_block k n (λ j. slice_index row j)) R
 
--- the rows of a block list whose blocks hold one point of each group, in the order of the groups
+-- the rows of blocks that hold one point of each group, in the order of the groups
 unfoldable pub rows_of_blocks : ℕ → List (List ℕ) → List (List ℕ)
 rows_of_blocks n B = map (map (λ x. x % n)) B
 
 -- how many rows have a in column i and b in column j
 unfoldable pub agree : List (List ℕ) → ℕ → ℕ → ℕ → ℕ → ℕ
-agree R i j a b = count_by (λ r. (slice_index r i == a) && (slice_index r j == b)) R
+agree R i j a b = count_by (λ row. (slice_index row i == a) && (slice_index row j == b)) R
 
 -- k symbols below n
-pub record IsRow (k n : ℕ) (r : List ℕ) : Type 0 where
-  pub size : length r ≡ k
-  pub below : All (λ a. a < n) r
+pub record IsRow (k n : ℕ) (row : List ℕ) : Type 0 where
+  pub size : length row ≡ k
+  pub below : All (λ a. a < n) row
 
--- an orthogonal array: in two different columns each pair of symbols stands in exactly one row
+-- an orthogonal array: n * n rows of k symbols below n, and in two different columns each ordered pair of symbols
+-- stands in exactly one row
 pub record IsOa (R : List (List ℕ)) (k n : ℕ) : Type 0 where
   pub count : length R ≡ n * n
   pub rows : All (IsRow k n) R

@@ -1,6 +1,6 @@
--- Orthogonal Latin squares.
-use Rattle.std.proofs.Common.{[], ◌&&◌}
-use Rattle.std.specs.Prelude.{All, List, length, slice_index, slice_index_or, ℕ, ◌*◌, ◌+◌, ◌<◌, ◌==◌, ◌≡◌}
+-- Mutually orthogonal Latin squares, as in the Handbook of Combinatorial Designs.
+use Rattle.std.specs.Prelude.{ℕ, List, [], ◌+◌, ◌*◌, ◌==◌, ◌<◌, ◌≡◌, All, length, slice_index, slice_index_or}
+use Rattle.std.proofs.Common.{◌&&◌}
 use Rattle.counting.specs.Sums.{one, sum_below}
 use Rattle.design_base.specs.Arrays.{IsRow}
 
@@ -8,7 +8,8 @@ use Rattle.design_base.specs.Arrays.{IsRow}
 abbrev pub cell : List (List ℕ) → ℕ → ℕ → ℕ → ℕ → ℕ
 cell L n s x y = slice_index (slice_index_or L (s * n + x) []) y
 
--- m squares of order n: each symbol once in each line and in each column, and for two squares each pair of symbols at one cell
+-- m squares of order n: each symbol once in each line and once in each column of a square, and for two squares each
+-- ordered pair of symbols at exactly one cell
 pub record IsMols (L : List (List ℕ)) (n m : ℕ) : Type 0 where
   pub count : length L ≡ m * n
   pub lines : All (IsRow n n) L

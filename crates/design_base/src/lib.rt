@@ -12,7 +12,7 @@ pub use limits::{
     COVER_MAX, DERIVATION_MAX, DIGITS_MAX, GDD_K_MAX, INPUT_MAX, LINE_MAX, PACKED_MAX,
     PARAMETER_MAX, PBD_S_MAX, POINTS_MAX, PREMISES_MAX, TD_K_MAX, TD_N_MAX, WORKERS_MAX,
 };
-pub use query::{Group, Query, TableAsk};
+pub use query::{FIELD_ORDERS, Group, Query, TableAsk, in_bounds, is_field_order};
 pub use refusal::Memory;
 pub use rule::Rule;
 pub use step::Step;

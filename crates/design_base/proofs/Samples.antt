@@ -1,0 +1,122 @@
+-- Small values of the definitions, computed.
+use Rattle.std.proofs.Common.{◌≡◌, ℕ, List, [], ◌∷◌, true, false, refl}
+use Rattle.counting.specs.Sorting.{insert_by, sort_by}
+use Rattle.counting.specs.Search.{first_in, each_passes, is_among}
+use Rattle.counting.specs.Sums.{join_below}
+use Rattle.design_base.specs.Blocks.{holds, cover, degree, across, differences}
+use Rattle.design_base.specs.Canonical.{lex_le, canonical}
+use Rattle.design_base.specs.Arrays.{place, row_block, blocks_of_rows, rows_of_blocks, agree}
+use Rattle.design_base.specs.Squares.{cell}
+use Rattle.design_base.specs.Fields.{shapes, shape_of, field_sum, field_product, powers_from, gen}
+use Rattle.design_base.specs.Limits.{in_bounds}
+use Rattle.design_base.specs.Meets.{group_add}
+use Rattle.design_base.specs.declared.query.Group.TheVariants.{Cyclic, Field}
+use Rattle.design_base.specs.declared.query.Query.TheVariants.{Td, Df, Bibd, Gdd, Pbd}
+
+-- the blocks of the plane with seven points, but for the last one
+abbrev six_blocks : List (List ℕ)
+six_blocks = (0 ∷ 1 ∷ 3 ∷ []) ∷ (1 ∷ 2 ∷ 4 ∷ []) ∷ (2 ∷ 3 ∷ 5 ∷ []) ∷ (3 ∷ 4 ∷ 6 ∷ []) ∷ (0 ∷ 4 ∷ 5 ∷ []) ∷ (1 ∷ 5 ∷ 6 ∷ []) ∷ []
+
+cover_none : cover [] 0 1 ≡ 0
+unfolding cover holds
+cover_none = refl
+
+cover_five : cover ((0 ∷ 2 ∷ 5 ∷ []) ∷ six_blocks) 0 5 ≡ 2
+unfolding cover holds
+cover_five = refl
+
+cover_six : cover ((0 ∷ 2 ∷ 6 ∷ []) ∷ six_blocks) 0 6 ≡ 1
+unfolding cover holds
+cover_six = refl
+
+degree_of_zero : degree ((0 ∷ 2 ∷ 6 ∷ []) ∷ six_blocks) 0 ≡ 3
+unfolding degree holds
+degree_of_zero = refl
+
+-- repeats are kept, and the shorter of two blocks that begin alike comes first
+canonical_form : canonical ((3 ∷ 1 ∷ 0 ∷ []) ∷ (2 ∷ 1 ∷ []) ∷ (1 ∷ 0 ∷ []) ∷ (2 ∷ 1 ∷ []) ∷ []) ≡ (0 ∷ 1 ∷ []) ∷ (0 ∷ 1 ∷ 3 ∷ []) ∷ (1 ∷ 2 ∷ []) ∷ (1 ∷ 2 ∷ []) ∷ []
+unfolding canonical sort_by insert_by lex_le
+canonical_form = refl
+
+-- points 2 and 3 are one group of two, and 3 and 4 are not
+one_group : across 2 2 3 ≡ 0
+unfolding across
+one_group = refl
+
+two_groups : across 2 3 4 ≡ 1
+unfolding across
+two_groups = refl
+
+-- the difference family over the integers modulo 7: each difference once
+difference_one : differences (group_add Cyclic 7) ((0 ∷ 1 ∷ 3 ∷ []) ∷ []) 1 ≡ 1
+unfolding differences group_add
+difference_one = refl
+
+difference_four : differences (group_add Cyclic 7) ((0 ∷ 1 ∷ 3 ∷ []) ∷ []) 4 ≡ 1
+unfolding differences group_add
+difference_four = refl
+
+-- the array of three columns and two symbols, its blocks, and back
+abbrev four_rows : List (List ℕ)
+four_rows = (0 ∷ 0 ∷ 0 ∷ []) ∷ (0 ∷ 1 ∷ 1 ∷ []) ∷ (1 ∷ 0 ∷ 1 ∷ []) ∷ (1 ∷ 1 ∷ 0 ∷ []) ∷ []
+
+abbrev four_blocks : List (List ℕ)
+four_blocks = (0 ∷ 2 ∷ 4 ∷ []) ∷ (0 ∷ 3 ∷ 5 ∷ []) ∷ (1 ∷ 2 ∷ 5 ∷ []) ∷ (1 ∷ 3 ∷ 4 ∷ []) ∷ []
+
+rows_agree : agree four_rows 0 2 1 1 ≡ 1
+unfolding agree
+rows_agree = refl
+
+blocks_of_four : blocks_of_rows 3 2 four_rows ≡ four_blocks
+unfolding blocks_of_rows row_block place join_below
+blocks_of_four = refl
+
+rows_of_four : rows_of_blocks 2 four_blocks ≡ four_rows
+unfolding rows_of_blocks
+rows_of_four = refl
+
+-- the symbol of the second square of order 3 in line 1 and column 0
+second_square : cell ((0 ∷ 1 ∷ 2 ∷ []) ∷ (1 ∷ 2 ∷ 0 ∷ []) ∷ (2 ∷ 0 ∷ 1 ∷ []) ∷ (0 ∷ 1 ∷ 2 ∷ []) ∷ (2 ∷ 0 ∷ 1 ∷ []) ∷ (1 ∷ 2 ∷ 0 ∷ []) ∷ []) 3 1 1 0 ≡ 2
+second_square = refl
+
+-- the field of nine elements: x + 1 and x + 2, and x times x is 2, since x * x + 1 is 0
+sum_of_nine : field_sum 9 4 5 ≡ 6
+unfolding field_sum shape_of shapes first_in
+sum_of_nine = refl
+
+product_of_nine : field_product 9 3 3 ≡ 2
+unfolding field_product shape_of shapes first_in
+product_of_nine = refl
+
+generator_of_nine : gen 9 ≡ 4
+unfolding gen first_in each_passes is_among shapes shape_of powers_from field_product join_below
+generator_of_nine = refl
+
+-- limits
+most_groups : in_bounds (Td 66 64) ≡ true
+unfolding in_bounds
+most_groups = refl
+
+many_groups : in_bounds (Td 129 1) ≡ false
+unfolding in_bounds
+many_groups = refl
+
+no_field_of_six : in_bounds (Df Field 6 3 1) ≡ false
+unfolding in_bounds shape_of shapes first_in
+no_field_of_six = refl
+
+integers_modulo_six : in_bounds (Df Cyclic 6 3 1) ≡ true
+unfolding in_bounds
+integers_modulo_six = refl
+
+most_pairs : in_bounds (Bibd 128 2 6) ≡ true
+unfolding in_bounds
+most_pairs = refl
+
+many_points : in_bounds (Gdd 3 65536 65536) ≡ false
+unfolding in_bounds
+many_points = refl
+
+no_small_blocks : in_bounds (Pbd 10 1) ≡ false
+unfolding in_bounds
+no_small_blocks = refl
