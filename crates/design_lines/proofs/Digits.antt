@@ -1,0 +1,44 @@
+-- Digits that are read from the left, and numbers that are read back from their digits.
+use Rattle.std.proofs.Common.{◌≡◌, ℕ, ◌+◌, ◌-◌, ◌*◌, ◌<◌, ◌≤◌, ◌^◌, Bool, true, false, ◌&&◌, List, [], ◌∷◌, length, take, get_or, length-take, arith, rules, refl, ap, sym, ◌∙◌}
+use Rattle.std.specs.Prelude.{Option, Some, None}
+use Rattle.std.specs.List.{list_all}
+use Rattle.std.specs.Char.{is_ascii_digit, digit_value}
+use Rattle.std.specs.Str.Parse.{digits_value}
+use Rattle.std.proofs.lemmas.Bool.Decides.{nat_tests}
+use Rattle.std.proofs.lemmas.Int.Digits.{digits_value_more}
+use Rattle.std.proofs.lemmas.List.Folds.{list_all_more, list_all_at}
+use Rattle.std.proofs.lemmas.Str.Parse.{IsDigitsTest, IsNumeralModel, numerals_by_value, digits_value_short}
+
+abbrev IsDigits : List ℕ → Type 0
+IsDigits ds = list_all is_ascii_digit ds ≡ true
+
+digits_test : IsDigitsTest IsDigits
+digits_test = search rules
+
+pub numerals : IsNumeralModel IsDigits (digits_value 10)
+numerals = numerals_by_value IsDigits digits_test
+
+-- the value of a digit
+digit_value_of : (c : ℕ) → is_ascii_digit c ≡ true → digit_value c ≡ c - 48
+digit_value_of c h = grind (arith, nat_tests)
+
+-- these are digits, and this is what they write
+pub record IsValue (ds : List ℕ) (value : ℕ) : Type 0 where
+  pub digits : IsDigits ds
+  pub written : value ≡ digits_value 10 ds
+
+pub value_small : (ds : List ℕ) (i value : ℕ) → IsValue (take i ds) value → value < 10 ^ length ds
+value_small ds i value h =
+    rw h.written (digits_value_short numerals (take i ds) (length ds) h.digits (omega (arith, length-take i ds)))
+
+-- one more digit
+pub value_more : (ds : List ℕ) (i value : ℕ) → i < length ds → IsValue (take i ds) value → is_ascii_digit (get_or ds i 0) ≡ true → IsValue (take (i + 1) ds) (10 * value + (get_or ds i 0 - 48))
+value_more ds i value below so_far here =
+    let e : digits_value 10 (take (i + 1) ds) ≡ digits_value 10 (take i ds) * 10 + digit_value (get_or ds i 0) = digits_value_more 10 ds i below in
+    let d : digit_value (get_or ds i 0) ≡ get_or ds i 0 - 48 = digit_value_of (get_or ds i 0) here in
+    record { digits = rw (list_all_more is_ascii_digit ds i 0 below, so_far.digits, here) refl; written = omega (arith, e, d, so_far.written) }
+
+-- eight digits at most stand before the ninth
+pub value_room : (ds : List ℕ) (i value : ℕ) → i < length ds → length ds ≤ 9 → IsValue (take i ds) value → value < 10 ^ 8
+value_room ds i value below short so_far =
+    rw so_far.written (digits_value_short numerals (take i ds) 8 so_far.digits (omega (arith, length-take i ds)))
