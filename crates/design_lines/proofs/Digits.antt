@@ -3,7 +3,9 @@ use Rattle.std.proofs.Common.{◌≡◌, ℕ, ◌+◌, ◌-◌, ◌*◌, ◌<◌
 use Rattle.std.specs.Prelude.{Option, Some, None}
 use Rattle.std.specs.List.{list_all}
 use Rattle.std.specs.Char.{is_ascii_digit, digit_value}
+use Rattle.std.specs.Fmt.{decimal}
 use Rattle.std.specs.Str.Parse.{digits_value}
+use Rattle.std.proofs.lemmas.Fmt.{length-decimal-le}
 use Rattle.std.proofs.lemmas.Bool.Decides.{nat_tests}
 use Rattle.std.proofs.lemmas.Int.Digits.{digits_value_more}
 use Rattle.std.proofs.lemmas.List.Folds.{list_all_more, list_all_at}
@@ -42,3 +44,7 @@ value_more ds i value below so_far here =
 pub value_room : (ds : List ℕ) (i value : ℕ) → i < length ds → length ds ≤ 9 → IsValue (take i ds) value → value < 10 ^ 8
 value_room ds i value below short so_far =
     rw so_far.written (digits_value_short numerals (take i ds) 8 so_far.digits (omega (arith, length-take i ds)))
+
+-- a number of 16 bits has at most five digits
+pub length_of_short : (n : ℕ) → n < 2 ^ 16 → length (decimal n) ≤ 5
+length_of_short n h = length-decimal-le 5 n (omega arith) (omega arith) (omega arith)
