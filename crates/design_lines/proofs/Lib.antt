@@ -1,4 +1,5 @@
 pub mod Bounds
 pub mod Digits
 pub mod Joined
+pub mod RowNumbers
 pub mod Runs

@@ -111,13 +111,28 @@ first_word_is line rest e h =
     let P : List ℕ → Type 0 = λ l. 0 < run is_in_word l in
     sym (behind_blanks line) ∙ ap words_of (sym e) ∙ words_from rest (subst P (sym e) (run_behind_blanks line (subst Q e h)))
 
--- there are no more words than parts between blanks
-pub few_words : (line : List ℕ) → length (words_of line) ≤ length line + 1
+at_most_one_more : (a b : Bool) (x y : List ℕ) (rest : List (List ℕ)) → length (cond a (x ∷ rest) rest) ≤ length (cond b (y ∷ rest) rest) + 1
+at_most_one_more true true x y rest = omega arith
+at_most_one_more true false x y rest = omega arith
+at_most_one_more false true x y rest = omega arith
+at_most_one_more false false x y rest = omega arith
+
+-- each word has a byte
+few_parts : (line : List ℕ) → length (filter is_not_empty (slice_split is_blank line)) ≤ length line
+few_parts [] = omega arith
+few_parts (c ∷ xs) = split (is_blank c) refl (few_parts xs)
+  where
+    longer : (parts : List (List ℕ)) → length (filter is_not_empty (onto_first c parts)) ≤ length (filter is_not_empty parts) + 1
+    longer [] = omega arith
+    longer (part ∷ parts) = at_most_one_more (is_not_empty (c ∷ part)) (is_not_empty part) (c ∷ part) part (filter is_not_empty parts)
+    split : (b : Bool) → is_blank c ≡ b → length (filter is_not_empty (slice_split is_blank xs)) ≤ length xs → length (filter is_not_empty (slice_split is_blank (c ∷ xs))) ≤ length (c ∷ xs)
+    split true h rest =
+        let e : filter is_not_empty (slice_split is_blank (c ∷ xs)) ≡ filter is_not_empty (slice_split is_blank xs) = ap (filter is_not_empty) (slice_split-cons_yes is_blank c xs h) in
+        omega (arith, ap length e, rest)
+    split false h rest =
+        let e : filter is_not_empty (slice_split is_blank (c ∷ xs)) ≡ filter is_not_empty (onto_first c (slice_split is_blank xs)) = ap (filter is_not_empty) (slice_split-cons_no is_blank c xs h) in
+        omega (arith, ap length e, longer (slice_split is_blank xs), rest)
+
+pub few_words : (line : List ℕ) → length (words_of line) ≤ length line
 unfolding words_of
-few_words line = omega (
-    arith,
-    length-filter is_not_empty (slice_split is_blank line),
-    count_by-le-length is_not_empty (slice_split is_blank line),
-    length-slice_split is_blank line,
-    count_by-le-length is_blank line
-)
+few_words line = few_parts line

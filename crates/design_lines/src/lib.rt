@@ -1,6 +1,7 @@
 // The lines that the program reads and writes.
 #![tactic(auto)]
 
+mod block_lines;
 mod command;
 mod commands;
 mod line;
@@ -10,6 +11,7 @@ mod questions;
 mod texts;
 mod words;
 
+pub use block_lines::{push_block_line, BlockLineEnd};
 pub use command::{Asked, Command, Reason, Shape, Verb};
 pub use commands::{read_line, read_words};
 pub use line::{Line, Text, LINE_ROOM, TEXT_ROOM};

@@ -5,8 +5,8 @@ ghost use Rattle.design_lines.specs.Words.{value_of as written, is_short as is_s
 
 use design_base::DIGITS_MAX;
 
-// The number that at most nine digits write; none where there is another byte.
-fn value_of(digits: &[u8]) -> Option<u64>
+/// The number that at most nine digits write; none where there is another byte.
+pub fn value_of(digits: &[u8]) -> Option<u64>
     requires { length digits.now ≤ 9 }
     ensures value { result ≡ written digits.now }
     ensures small { IfSome result (λ n. n < 10 ^ length digits.now) }
