@@ -1,11 +1,14 @@
 -- Digits that are read from the left, and numbers that are read back from their digits.
-use Rattle.std.proofs.Common.{◌≡◌, ℕ, ◌+◌, ◌-◌, ◌*◌, ◌<◌, ◌≤◌, ◌^◌, Bool, true, false, ◌&&◌, List, [], ◌∷◌, length, take, get_or, length-take, arith, rules, refl, ap, sym, ◌∙◌}
-use Rattle.std.specs.Prelude.{Option, Some, None}
+use Rattle.std.proofs.Common.{◌≡◌, ℕ, ◌+◌, ◌-◌, ◌*◌, ◌<◌, ◌≤◌, ◌^◌, Bool, true, false, ◌&&◌, ◌||◌, ◌==◌, inl, inr, List, [], ◌∷◌, length, take, get_or, length-take, arith, rules, refl, ap, sym, ◌∙◌}
+use Rattle.std.specs.Prelude.{Some, not, slice_index}
+use Rattle.design_base.specs.declared.limits.TheConstants.{DIGITS_MAX}
+use Rattle.design_lines.specs.Words.{is_short, number_of}
 use Rattle.std.specs.List.{list_all}
 use Rattle.std.specs.Char.{is_ascii_digit, digit_value}
 use Rattle.std.specs.Fmt.{decimal}
 use Rattle.std.specs.Str.Parse.{digits_value}
-use Rattle.std.proofs.lemmas.Fmt.{length-decimal-le}
+use Rattle.std.proofs.lemmas.Bool.{le-leb, cases_lt}
+use Rattle.std.proofs.lemmas.Fmt.{length-decimal-le, digits_decimal, digits_value-decimal, decimal_nonempty, first_decimal, decimal_digit}
 use Rattle.std.proofs.lemmas.Bool.Decides.{nat_tests}
 use Rattle.std.proofs.lemmas.Int.Digits.{digits_value_more}
 use Rattle.std.proofs.lemmas.List.Folds.{list_all_more, list_all_at}
@@ -48,3 +51,28 @@ value_room ds i value below short so_far =
 -- a number of 16 bits has at most five digits
 pub length_of_short : (n : ℕ) → n < 2 ^ 16 → length (decimal n) ≤ 5
 length_of_short n h = length-decimal-le 5 n (omega arith) (omega arith) (omega arith)
+
+-- one of 64 bits has at most twenty
+pub length_of_long : (n : ℕ) → n < 2 ^ 64 → length (decimal n) ≤ 20
+length_of_long n h = length-decimal-le 20 n (omega arith) (omega arith) h
+
+-- a digit, or a first byte that is not `0`
+well_begun : (n : ℕ) → n < 2 ^ 64 → (length (decimal n) == 1 || not (slice_index (decimal n) 0 == 48)) ≡ true
+well_begun n h = elim (cases_lt 0 n) [
+  | inl positive ↦ (let first = first_decimal n positive h in grind (arith, nat_tests))
+  | inr none ↦ (let e : decimal n ≡ (48 + n) ∷ [] = decimal_digit n (omega arith) in rw e refl)
+]
+
+decimal_is_short : (n : ℕ) → n < 10 ^ DIGITS_MAX → is_short (decimal n) ≡ true
+decimal_is_short n h =
+    let longest : length (decimal n) ≤ DIGITS_MAX = length-decimal-le DIGITS_MAX n (omega arith) h (omega arith) in
+    let shortest : 1 ≤ length (decimal n) = decimal_nonempty n (omega arith) in
+    let begun = well_begun n (omega arith) in
+    simp (le-leb 1 (length (decimal n)) shortest, le-leb (length (decimal n)) DIGITS_MAX longest, begun)
+
+-- a number is read back from its digits
+pub number_of_decimal : (n : ℕ) → n < 10 ^ DIGITS_MAX → number_of (decimal n) ≡ Some n
+unfolding number_of
+number_of_decimal n h =
+    let digits : IsDigits (decimal n) = digits_decimal numerals n (omega arith) in
+    simp (decimal_is_short n h, digits, digits_value-decimal numerals n (omega arith))

@@ -1,5 +1,6 @@
 pub mod Bounds
 pub mod Digits
 pub mod Joined
+pub mod ReadBack
 pub mod RowNumbers
 pub mod Runs

@@ -47,10 +47,9 @@ stripped_length line = split (slice_index line (length line - 1) == 13)
 -- before the first number is read
 pub at_start : (line row : List ℕ) (words : List (List ℕ)) → row ≡ [] → words ≡ words_of (strip_carriage_return line) → (block_line line ≡ behind row words) × (length row + length words ≤ length line)
 unfolding block_line
-at_start line row words none all =
-    (
-        sym (ap (λ r. behind r words) none ∙ behind_nothing words ∙ ap numbers_of all),
-        omega (arith, ap length none, ap length all, few_words (strip_carriage_return line), stripped_length line)
-    )
+at_start line row words none all = (
+  sym (ap (λ r. behind r words) none ∙ behind_nothing words ∙ ap numbers_of all),
+  omega (arith, ap length none, ap length all, few_words (strip_carriage_return line), stripped_length line),
+)
 
 pub ruleset row_steps = (behind_nothing, behind_all, behind_more, behind_bad)

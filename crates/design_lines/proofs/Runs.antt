@@ -125,6 +125,7 @@ few_parts (c ∷ xs) = split (is_blank c) refl (few_parts xs)
     longer : (parts : List (List ℕ)) → length (filter is_not_empty (onto_first c parts)) ≤ length (filter is_not_empty parts) + 1
     longer [] = omega arith
     longer (part ∷ parts) = at_most_one_more (is_not_empty (c ∷ part)) (is_not_empty part) (c ∷ part) part (filter is_not_empty parts)
+
     split : (b : Bool) → is_blank c ≡ b → length (filter is_not_empty (slice_split is_blank xs)) ≤ length xs → length (filter is_not_empty (slice_split is_blank (c ∷ xs))) ≤ length (c ∷ xs)
     split true h rest =
         let e : filter is_not_empty (slice_split is_blank (c ∷ xs)) ≡ filter is_not_empty (slice_split is_blank xs) = ap (filter is_not_empty) (slice_split-cons_yes is_blank c xs h) in

@@ -5,12 +5,11 @@ ghost use Rattle.incidence.specs.Packed.{size_of};
 ghost use Rattle.design_lines.specs.declared.block_lines.BlockLineEnd.TheVariants.{Memory};
 ghost use Rattle.design_lines.specs.BlockLines.{AddsLine, block_line, block_number as number_in_block};
 
+use crate::numbers::value_of;
+use crate::words::Words;
 use design_base::{Memory, PACKED_MAX};
 use incidence::Rows;
 use std::alloc::{AllocFailed, Global};
-
-use crate::numbers::value_of;
-use crate::words::Words;
 
 /// Why a line was not added to the rows.
 #[derive(Clone, Copy, Debug, PartialEq, Eq)]

@@ -59,5 +59,8 @@ pub enum Command {
     /// The lines of the input are to be answered.
     Batch,
     /// A table of questions, answered by 1 to 16 workers.
-    Table { ask: TableAsk, workers: u8 },
+    Table {
+        ask: TableAsk,
+        workers: u8,
+    },
 }

@@ -5,12 +5,9 @@ ghost use Rattle.design_lines.specs.Reading.{Reads, one_of, one_of_or};
 ghost use Rattle.design_lines.specs.Words.{texts};
 ghost use Rattle.design_lines.specs.Grammar.{batch_lines, bibd_table, gdd_table, is_range, on, other_lines, parse, parse_in_batch, tables, td_table, workers};
 
-use design_base::{
-    TableAsk, COVER_MAX, GDD_K_MAX, POINTS_MAX, TD_K_MAX, TD_N_MAX, WORKERS_MAX,
-};
-
 use crate::command::{Command, Reason, Verb};
 use crate::words::Words;
+use design_base::{COVER_MAX, GDD_K_MAX, POINTS_MAX, TD_K_MAX, TD_N_MAX, TableAsk, WORKERS_MAX};
 
 // Whether a number lies in a range.
 fn is_within(low: u16, high: u16, number: u64) -> bool

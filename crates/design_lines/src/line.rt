@@ -83,14 +83,24 @@ impl<const ROOM: usize> InPlace<ROOM> {
         self.push(word);
     }
 
-    /// Appends a number in decimal digits, as a word.
-    pub fn push_number(&mut self, number: u64)
+    // Appends a number as a word.
+    fn push_decimal(&mut self, number: u64)
         requires { length self.old + length (decimal number) + 1 ≤ ROOM }
         ensures word { self.new ≡ with_word self.old (decimal number) }
         ensures short { length self.new ≤ length self.old + length (decimal number) + 1 }
     {
         let mut digits = Buffer::new();
         self.push_word(digits.format(number).as_bytes());
+    }
+
+    /// Appends a number in decimal digits, as a word.
+    #[tactic(auto, using(crate::proofs::Digits::length_of_long))]
+    pub fn push_number(&mut self, number: u64)
+        requires { length self.old + 21 ≤ ROOM }
+        ensures word { self.new ≡ with_word self.old (decimal number) }
+        ensures short { length self.new ≤ length self.old + 21 }
+    {
+        self.push_decimal(number);
     }
 
     /// Appends numbers, each as a word.
@@ -101,7 +111,7 @@ impl<const ROOM: usize> InPlace<ROOM> {
         ensures short { length self.new ≤ length self.old + 6 * length numbers.now }
     {
         for number in numbers {
-            self.push_number(u64::from(*number));
+            self.push_decimal(u64::from(*number));
         }
     }
 

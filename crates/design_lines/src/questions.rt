@@ -4,10 +4,9 @@ ghost use Rattle.counting.specs.Search.{◌<=◌};
 ghost use Rattle.design_lines.specs.Reading.{Reads, ◌then◌, gives, one_of};
 ghost use Rattle.design_lines.specs.Grammar.{asked, groups, narrowed, normal_question, question, squares};
 
-use design_base::{in_bounds, Group, Query, DIGITS_MAX};
-
 use crate::command::{Asked, Reason, Shape};
 use crate::words::Words;
+use design_base::{DIGITS_MAX, Group, Query, in_bounds};
 
 // The number, where it is not above 65,535.
 fn narrow(number: u64) -> Option<u16>

@@ -1,11 +1,11 @@
-//! Questions and steps in words.
-ghost use Rattle.std.specs.Prelude.{◌≡◌};
-ghost use Rattle.design_lines.specs.Printed.{group_word, question_words, spaced, step_words};
+//! Questions, steps and rows of numbers as they are printed.
+ghost use Rattle.std.specs.Prelude.{◌≡◌, ◌*◌, ◌<◌, length, map};
+ghost use Rattle.std.specs.Fmt.{decimal};
+ghost use Rattle.design_lines.specs.Printed.{group_word, line_of, question_words, spaced, step_words};
 
-use design_base::{Group, Query, Step};
-
-use crate::line::Text;
+use crate::line::{LINE_ROOM, Line, Text};
 use crate::names::{parameter_count, rule_name};
+use design_base::{Group, Query, Step};
 
 // The word of a group.
 fn group_name(group: Group) -> &'static str
@@ -59,4 +59,16 @@ pub fn step_text(step: &Step) -> Text
     let parameters = [step.a, step.b, step.c, step.d];
     text.push_numbers(&parameters[..parameter_count(step.rule)]);
     text
+}
+
+/// A row of numbers as a line, with one space between each two.
+#[tactic(auto, using(crate::proofs::Joined::row_joined))]
+pub fn row_line(row: &[u16]) -> Line
+    requires { 6 * length row.now < LINE_ROOM }
+    ensures { result ≡ line_of (map decimal row.now) }
+{
+    let mut line = Line::new();
+    line.push_numbers(row);
+    line.end();
+    line
 }

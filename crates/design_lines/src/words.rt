@@ -4,12 +4,10 @@ ghost use Rattle.design_lines.specs.Reading.{Reads, at_end, is_next, no_fixed_wo
 ghost use Rattle.design_lines.specs.Source.{words_in};
 ghost use Rattle.design_lines.specs.Words.{texts, words_of, is_blank as is_blank_byte, is_in_word};
 
-use design_base::DIGITS_MAX;
-use std::marker::Model;
-
 use crate::command::Reason;
 use crate::numbers::number_of;
-
+use design_base::DIGITS_MAX;
+use std::marker::Model;
 
 // Where the words come from.
 #[derive(Clone, Copy)]

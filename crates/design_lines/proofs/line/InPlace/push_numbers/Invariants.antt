@@ -6,5 +6,5 @@ use Rattle.design_lines.proofs.line.InPlace.push_numbers.Given as goal
 abbrev pub invariant-loop-number : goal.invariant-loop-number
 invariant-loop-number g l = record {
   words : l.self ≡ with_words l.fn.self (map decimal (take l.number-index l.numbers));
-  short : length l.self ≤ length l.fn.self + 6 * l.number-index
+  short : length l.self ≤ length l.fn.self + 6 * l.number-index;
 }
