@@ -142,12 +142,30 @@ fn questions_and_steps_are_printed(rt: HostRuntime) {
     assert_eq!(rt; line.bytes(), b"blocks 12\n".as_slice());
 }
 
+// What is answered to a line of at most 64 bytes, and the rows that it made.
+fn added(alloc: Global, line: &[u8]) -> (Result<bool, BlockLineEnd>, Rows) {
+    let mut rows = Rows::new(alloc);
+    let answer = push_block_line(alloc, &mut rows, &line[..line.len().min(64)]);
+    (answer, rows)
+}
+
 #[test]
 fn block_lines_are_added(rt: HostRuntime) -> Result<(), Fail> {
-    let mut rows = Rows::new(rt.alloc());
-    let good: [&[u8]; 4] = [b"0 1 3", b"", b" \t\r", b"\t00012  65535 \r"];
-    for line in good {
-        assert!(rt; push_block_line(rt.alloc(), &mut rows, line).is_ok());
+    let good: [(&[u8], &[u16]); 2] = [
+        (b"0 1 3", &[0, 1, 3]),
+        (b"\t00012  65535 \r", &[12, 65_535]),
+    ];
+    for (line, row) in good {
+        let (answer, rows) = added(rt.alloc(), line);
+        assert_eq!(rt; answer, Ok(true));
+        assert_eq!(rt; rows.len(), 1);
+        assert_eq!(rt; rows.row(0), row);
+    }
+    let blank: [&[u8]; 3] = [b"", b" \t\r", b"\r"];
+    for line in blank {
+        let (answer, rows) = added(rt.alloc(), line);
+        assert_eq!(rt; answer, Ok(false));
+        assert!(rt; rows.is_empty());
     }
     let bad: [&[u8]; 8] = [
         b"65536",
@@ -160,11 +178,9 @@ fn block_lines_are_added(rt: HostRuntime) -> Result<(), Fail> {
         b"\xc2\xa01",
     ];
     for line in bad {
-        assert_eq!(rt;
-            push_block_line(rt.alloc(), &mut rows, line),
-            Err(BlockLineEnd::Bad)
-        );
+        let (answer, rows) = added(rt.alloc(), line);
+        assert_eq!(rt; answer, Err(BlockLineEnd::Bad));
+        assert!(rt; rows.is_empty());
     }
-    assert!(rt; rows.iter().eq([[0, 1, 3].as_slice(), &[12, 65_535]]));
     Ok(())
 }

@@ -9,6 +9,9 @@ use crate::numbers::number_of;
 use design_base::DIGITS_MAX;
 use std::marker::Model;
 
+// The number of a line's first word.
+const FIRST_WORD: u64 = 1;
+
 // Where the words come from.
 #[derive(Clone, Copy)]
 enum Source<'a> {
@@ -93,7 +96,7 @@ impl<'a> Words<'a> {
     {
         Words {
             source: Source::Texts(words),
-            at: 1,
+            at: FIRST_WORD,
         }
     }
 
@@ -104,7 +107,7 @@ impl<'a> Words<'a> {
     {
         Words {
             source: Source::Line(line),
-            at: 1,
+            at: FIRST_WORD,
         }
     }
 
