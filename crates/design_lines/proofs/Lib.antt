@@ -4,3 +4,4 @@ pub mod Joined
 pub mod ReadBack
 pub mod RowNumbers
 pub mod Runs
+pub mod InBounds

@@ -1,5 +1,5 @@
 -- The grammar of the lines.
-use Rattle.std.specs.Prelude.{ℕ, ◌+◌, ◌*◌, ◌/◌, Bool, ◌&&◌, if◌then◌else◌, List, [], ◌∷◌, codes, Option, Some, None, option_map, Result, Ok, Err}
+use Rattle.std.specs.Prelude.{ℕ, ◌+◌, ◌*◌, ◌/◌, ◌≡◌, Bool, true, ⊤, ◌&&◌, if◌then◌else◌, List, [], ◌∷◌, codes, Option, Some, None, option_map, Result, Ok, Err}
 use Rattle.counting.specs.Search.{◌<=◌}
 use Rattle.design_base.specs.declared.query.Group.{Group}
 use Rattle.design_base.specs.declared.query.Group.TheVariants.{Cyclic, Field}
@@ -133,6 +133,11 @@ within_limits (Ok (Some a)) = Ok a
 -- the command of the words; or the reason of the first bad word, or that the numbers break the limits
 unfoldable pub parse : List (List ℕ) → Result Command Reason
 parse words = within_limits (whole (one_of_or other_lines (one_of batch_lines)) words)
+
+-- the question that is asked is in bounds
+abbrev pub IsInBounds : Command → Type 0
+IsInBounds (On verb q shape) = in_bounds q ≡ true
+IsInBounds command = ⊤
 
 abbrev pub as_some : {A : Type 0} → Result A Reason → Result (Option A) Reason
 as_some (Err reason) = Err reason

@@ -1,9 +1,9 @@
 //! Reading a command line, or a line of a batch.
-ghost use Rattle.std.specs.Prelude.{◌≡◌, Result, ◌/◌};
+ghost use Rattle.std.specs.Prelude.{◌≡◌, Result, IfOk, ◌/◌};
 ghost use Rattle.design_base.specs.Limits.{within};
 ghost use Rattle.design_lines.specs.Reading.{Reads, one_of, one_of_or};
 ghost use Rattle.design_lines.specs.Words.{texts};
-ghost use Rattle.design_lines.specs.Grammar.{batch_lines, bibd_table, gdd_table, is_range, on, other_lines, parse, parse_in_batch, tables, td_table, workers};
+ghost use Rattle.design_lines.specs.Grammar.{IsInBounds, batch_lines, bibd_table, gdd_table, is_range, on, other_lines, parse, parse_in_batch, tables, td_table, workers};
 
 use crate::command::{Command, Reason, Verb};
 use crate::words::Words;
@@ -201,16 +201,25 @@ impl<'a> Words<'a> {
     }
 }
 
-/// The command that the words of a command line are. Words are read from the left, and the first bad one decides; a line
-/// of good words is refused as out of bounds where its numbers break the limits.
+// The command of the words, or the fault of the line.
 #[tactic(auto, unfolding(crate::specs::Grammar::parse, crate::specs::Reading::at_end))]
-pub fn read_words(words: &[String]) -> Result<Command, Reason>
+fn command_of(words: &[String]) -> Result<Command, Reason>
     ensures { result ≡ parse (texts words.now) }
 {
     let mut words = Words::of_texts(words);
     let command = words.line()?;
     words.finish()?;
     command.ok_or(Reason::OutOfBounds)
+}
+
+/// The command that the words of a command line are. Words are read from the left, and the first bad one decides; a line
+/// of good words is refused as out of bounds where its numbers break the limits.
+#[tactic(auto, using(crate::proofs::InBounds::parse_in_bounds))]
+pub fn read_words(words: &[String]) -> Result<Command, Reason>
+    ensures command { result ≡ parse (texts words.now) }
+    ensures bounds { IfOk result IsInBounds }
+{
+    command_of(words)
 }
 
 /// The command that a line of a batch is, of which only the verbs `ask`, `build`, `explain` and `closure` are known. Its

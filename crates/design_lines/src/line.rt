@@ -55,7 +55,8 @@ impl<const ROOM: usize> InPlace<ROOM> {
 
     /// The bytes.
     pub fn bytes(&self) -> &[u8]
-        ensures { result.now ≡ self.now }
+        ensures bytes { result.now ≡ self.now }
+        ensures fits { length result.now ≤ ROOM }
     {
         &self.bytes[..self.len]
     }
