@@ -1,9 +1,10 @@
 -- Pieces that are appended one after another, where the bytes are told.
-use Rattle.std.proofs.Common.{◌≡◌, ℕ, ◌+◌, ◌<◌, List, [], ◌∷◌, ◌++◌, length, take, drop, get_or, sym, ap, ◌∙◌, arith, length-append, Option, Result, Ok, Err}
+use Rattle.std.proofs.Common.{◌≡◌, ℕ, ◌+◌, ◌<◌, List, [], ◌∷◌, ◌++◌, length, take, drop, get_or, sym, ap, ◌∙◌, arith, length-append, Option, Some, Result, Ok, Err}
 use Rattle.std.proofs.Math.Seq.{take-add, take-append-add}
 use Rattle.std.proofs.lemmas.List.{take-append-le, take_more, drop_more, take-append-drop, append-nil}
 use Rattle.std.proofs.lemmas.List.Concat.{flat_map-append}
-use Rattle.std.specs.List.{flat_map}
+use Rattle.std.proofs.lemmas.Option.{get_or_from_slice_get, slice_get_within}
+use Rattle.std.specs.List.{flat_map, slice_get}
 use Rattle.std.specs.Result.{IsErr}
 use Rattle.std.specs.Io.KnownBytes.{Appends}
 use Rattle.std.proofs.KnownBytes.{Appends-trans}
@@ -40,25 +41,38 @@ pub AppendsWhole-failed : {T E : Type 0} (a b : Option (List ℕ)) (r : Result T
 AppendsWhole-failed a b (Ok x) bs failed part = cc
 AppendsWhole-failed a b (Err e) bs failed part = part
 
--- one more piece of a list
-pub Appends-flat_map-more : {X : Type 0} (a b c : Option (List ℕ)) (f : X → List ℕ) (xs : List X) (i : ℕ) (d : X) → i < length xs → Appends a b (flat_map f (take i xs)) → Appends b c (f (get_or xs i d)) → Appends a c (flat_map f (take (i + 1) xs))
-Appends-flat_map-more a b c f xs i d within front next =
-    rw (take_more xs i d within, flat_map-append f (take i xs) (get_or xs i d ∷ []), append-nil) (Appends-trans a b c (flat_map f (take i xs)) (f (get_or xs i d)) front next)
-
--- all pieces of a list are those before a place, the one there and those behind it
-flat_map_at : {X : Type 0} (f : X → List ℕ) (xs : List X) (i : ℕ) (d : X) → i < length xs → flat_map f xs ≡ flat_map f (take i xs) ++ (f (get_or xs i d) ++ flat_map f (drop (i + 1) xs))
+-- the pieces of a list are those before a place, the one there and those behind it
+flat_map_at : {X : Type 0} (f : X → List ℕ) (xs : List X) (i : ℕ) (d : X) → i < length xs
+    → flat_map f xs ≡ flat_map f (take i xs) ++ (f (get_or xs i d) ++ flat_map f (drop (i + 1) xs))
 flat_map_at f xs i d within =
     ap (flat_map f) (sym (take-append-drop i xs) ∙ ap (λ rest. take i xs ++ rest) (drop_more xs i d within)) ∙ flat_map-append f (take i xs) (get_or xs i d ∷ drop (i + 1) xs)
 
--- a part of the next piece of a list, after all of those before it, is a part of all
-pub AppendsPart-flat_map : {X : Type 0} (a b c : Option (List ℕ)) (f : X → List ℕ) (xs : List X) (i : ℕ) (d : X) → i < length xs → Appends a b (flat_map f (take i xs)) → AppendsPart b c (f (get_or xs i d)) → AppendsPart a c (flat_map f xs)
-AppendsPart-flat_map a b c f xs i d within front next =
-    rw (flat_map_at f xs i d within) (AppendsPart-second a (flat_map f (take i xs)) front (AppendsPart-first (flat_map f (drop (i + 1) xs)) next))
+-- one more piece of a list, after those before it
+pub Appends-flat_map : {X : Type 0} (a b c : Option (List ℕ)) (f : X → List ℕ) (xs : List X) (i : ℕ) (d : X) (piece : List ℕ)
+    → Appends a b (flat_map f (take i xs)) → i < length xs → piece ≡ f (get_or xs i d) → Appends b c piece → Appends a c (flat_map f (take (i + 1) xs))
+Appends-flat_map a b c f xs i d piece front within is next =
+    rw (take_more xs i d within, flat_map-append f (take i xs) (get_or xs i d ∷ []), append-nil, ← is) (Appends-trans a b c (flat_map f (take i xs)) piece front next)
 
--- a `?` in a loop that writes the pieces of a list
-pub AppendsWhole-flat_map : {T E X : Type 0} (a b c : Option (List ℕ)) (r : Result T E) (f : X → List ℕ) (xs : List X) (i : ℕ) (d : X) → IsErr r → i < length xs → Appends a b (flat_map f (take i xs)) → AppendsPart b c (f (get_or xs i d)) → AppendsWhole a c r (flat_map f xs)
-AppendsWhole-flat_map a b c r f xs i d failed within front next =
-    AppendsWhole-failed a c r (flat_map f xs) failed (AppendsPart-flat_map a b c f xs i d within front next)
+-- a `?` that hands on that a part of a piece was appended, after those before it
+pub AppendsWhole-flat_map : {T E X : Type 0} (a b c : Option (List ℕ)) (r : Result T E) (f : X → List ℕ) (xs : List X) (i : ℕ) (d : X) (piece : List ℕ)
+    → IsErr r → Appends a b (flat_map f (take i xs)) → i < length xs → piece ≡ f (get_or xs i d) → AppendsPart b c piece → AppendsWhole a c r (flat_map f xs)
+AppendsWhole-flat_map a b c r f xs i d piece failed front within is next =
+    let rest = flat_map f (drop (i + 1) xs) in
+    AppendsWhole-failed a c r (flat_map f xs) failed
+    (rw (flat_map_at f xs i d within, ← is) (AppendsPart-second a (flat_map f (take i xs)) front (AppendsPart-first rest next)))
 
--- what a function that writes one piece after another names in its attribute `using`
-pub ruleset composed = (AppendsPart-first, AppendsWhole-second, AppendsWhole-failed, Appends-flat_map-more)
+-- one more piece of a list, whose element was read by `slice_get`
+pub Appends-flat_map-get : {X : Type 0} (a b c : Option (List ℕ)) (f : X → List ℕ) (xs : List X) (i : ℕ) (x : X) (piece : List ℕ)
+    → Appends a b (flat_map f (take i xs)) → slice_get xs i ≡ Some x → piece ≡ f x → Appends b c piece → Appends a c (flat_map f (take (i + 1) xs))
+Appends-flat_map-get a b c f xs i x piece front there is next =
+    Appends-flat_map a b c f xs i x piece front (slice_get_within xs i x there) (rw (get_or_from_slice_get xs i x x there) is) next
+
+-- a `?` at a part of such a piece
+pub AppendsWhole-flat_map-get : {T E X : Type 0} (a b c : Option (List ℕ)) (r : Result T E) (f : X → List ℕ) (xs : List X) (i : ℕ) (x : X) (piece : List ℕ)
+    → IsErr r → Appends a b (flat_map f (take i xs)) → slice_get xs i ≡ Some x → piece ≡ f x → AppendsPart b c piece → AppendsWhole a c r (flat_map f xs)
+AppendsWhole-flat_map-get a b c r f xs i x piece failed front there is next =
+    AppendsWhole-flat_map a b c r f xs i x piece failed front (slice_get_within xs i x there) (rw (get_or_from_slice_get xs i x x there) is) next
+
+-- A function that writes one piece after another has the attribute `using(design_io::proofs::Pieces::composed)`.
+-- A loop over a list needs its invariant besides: `Appends` of `flat_map f (take i xs)`.
+pub ruleset composed = (AppendsPart-first, AppendsWhole-second, AppendsWhole-failed, Appends-flat_map, AppendsWhole-flat_map, Appends-flat_map-get, AppendsWhole-flat_map-get)
