@@ -1,45 +1,43 @@
--- What follows in any ring of this kind, and in any field.
+-- What follows in any commutative ring of the numbers below q, and in any field.
 use Rattle.std.proofs.Common.{◌≡◌, ◌≢◌, ℕ, ◌<◌, arith, ap, sym, ◌∙◌, inl, inr}
 use Rattle.std.specs.Prelude.{◌⊎◌}
 use Rattle.std.proofs.Math.Nat.{pos_of_ne-zero}
 use Rattle.std.proofs.lemmas.Bool.{cases_lt}
 use Rattle.design_base.specs.Rings.{IsCommutativeRing, HasInverses}
+use Rattle.field_tables.proofs.AnyGroup.{ring_sums, group_left, group_cancel, group_difference}
 
+-- regroup by simp with r.sums_associate, r.sums_commute and sums_left, multiply out with r.products_distribute and distribute_right
 module _ (q : ℕ) (add mul : ℕ → ℕ → ℕ) (r : IsCommutativeRing q add mul) where
-  sums_left : (x y z : ℕ) → add x (add y z) ≡ add y (add x z)
-  sums_left x y z = sym (r.sums_associate x y z) ∙ ap (λ t. add t z) (r.sums_commute x y) ∙ r.sums_associate y x z
+  -- the first two change places
+  pub sums_left : (x y z : ℕ) → add x (add y z) ≡ add y (add x z)
+  sums_left = group_left q add (ring_sums q add mul r)
+
+  pub products_left : (x y z : ℕ) → mul x (mul y z) ≡ mul y (mul x z)
+  products_left x y z = sym (r.products_associate x y z) ∙ ap (λ t. mul t z) (r.products_commute x y) ∙ r.products_associate y x z
 
   pub distribute_right : (x y z : ℕ) → mul (add x y) z ≡ add (mul x z) (mul y z)
   distribute_right x y z = simp (r.products_commute, r.products_distribute)
 
-  -- a regrouping by simp
-  regroup : (a b c d : ℕ) → add (add a b) (add c d) ≡ add (add d b) (add c a)
-  regroup a b c d = simp (r.sums_associate, r.sums_commute, sums_left)
-
-  square_of_sum : (a b : ℕ) → mul (add a b) (add a b) ≡ add (mul a a) (add (mul a b) (add (mul b a) (mul b b)))
-  square_of_sum a b = simp (r.products_distribute, distribute_right, r.sums_associate, r.sums_commute, sums_left)
-
-  undo : (x y : ℕ) → y < q → add (add x y) (r.negatives x).0 ≡ y
-  undo x y h = ap (λ t. add t (r.negatives x).0) (r.sums_commute x y) ∙ r.sums_associate y x (r.negatives x).0 ∙ ap (add y) (r.negatives x).2 ∙ r.zero_neutral y h
-
+  -- a sum by one element tells the other
   pub add_cancel : (x y z : ℕ) → y < q → z < q → add x y ≡ add x z → y ≡ z
-  add_cancel x y z hy hz e = sym (undo x y hy) ∙ ap (λ t. add t (r.negatives x).0) e ∙ undo x z hz
+  add_cancel = group_cancel q add (ring_sums q add mul r)
 
+  -- x and the difference make z
+  pub difference : (x z : ℕ) → z < q → (d : ℕ) × (d < q) × (add x d ≡ z)
+  difference = group_difference q add (ring_sums q add mul r)
+
+  pub difference_once : (x z c d : ℕ) → c < q → d < q → add x c ≡ z → add x d ≡ z → c ≡ d
+  difference_once x z c d hc hd e f = add_cancel x c d hc hd (e ∙ sym f)
+
+  -- a product by 0
   pub mul-zero : (x : ℕ) → mul x 0 ≡ 0
   mul-zero x =
       let zero_below : 0 < q = (let h : 1 < q = r.one_below in omega arith) in
       add_cancel (mul x 0) (mul x 0) 0 (r.products_below x 0) zero_below
       (sym (r.products_distribute x 0 0) ∙ ap (mul x) (r.zero_neutral 0 zero_below) ∙ sym (r.zero_neutral (mul x 0) (r.products_below x 0)))
 
-  -- x plus the difference is z
-  pub difference : (x z : ℕ) → z < q → (d : ℕ) × (d < q) × (add x d ≡ z)
-  difference x z h = (
-    add z (r.negatives x).0,
-    r.sums_below z (r.negatives x).0,
-    sums_left x z (r.negatives x).0 ∙ ap (add z) (r.negatives x).2 ∙ r.zero_neutral z h,
-  )
-
   module _ (inverses : HasInverses q mul) where
+    -- x times the quotient is z
     pub divide : (x z : ℕ) → 0 < x → x < q → z < q → (y : ℕ) × (y < q) × (mul x y ≡ z)
     divide x z pos lt h = (
       mul (inverses x pos lt).0 z,
@@ -47,6 +45,7 @@ module _ (q : ℕ) (add mul : ℕ → ℕ → ℕ) (r : IsCommutativeRing q add 
       sym (r.products_associate x (inverses x pos lt).0 z) ∙ ap (λ t. mul t z) (inverses x pos lt).2 ∙ r.products_commute 1 z ∙ r.one_neutral z h,
     )
 
+    -- a product by an element but 0 tells the other
     pub mul_cancel : (x y z : ℕ) → 0 < x → x < q → y < q → z < q → mul x y ≡ mul x z → y ≡ z
     mul_cancel x y z pos lt hy hz e = sym (unmul y hy) ∙ ap (mul (inverses x pos lt).0) e ∙ unmul z hz
       where
@@ -54,6 +53,10 @@ module _ (q : ℕ) (add mul : ℕ → ℕ → ℕ) (r : IsCommutativeRing q add 
         unmul y hy = sym (r.products_associate (inverses x pos lt).0 x y)
             ∙ ap (λ t. mul t y) (r.products_commute (inverses x pos lt).0 x ∙ (inverses x pos lt).2) ∙ r.products_commute 1 y ∙ r.one_neutral y hy
 
+    pub divide_once : (x z c d : ℕ) → 0 < x → x < q → c < q → d < q → mul x c ≡ z → mul x d ≡ z → c ≡ d
+    divide_once x z c d pos lt hc hd e f = mul_cancel x c d pos lt hc hd (e ∙ sym f)
+
+    -- a product is 0 only by 0
     pub no_zero_divisors : (x y : ℕ) → x < q → y < q → mul x y ≡ 0 → (x ≡ 0) ⊎ (y ≡ 0)
     no_zero_divisors x y hx hy e = elim (cases_lt 0 x) [
       | inr none ↦ inl (omega arith)

@@ -1,3 +1,4 @@
+-- The numbers below p ^ e make a commutative ring under each polynomial of degree e.
 use Rattle.std.proofs.Common.{◌≡◌, ℕ, ◌+◌, ◌*◌, ◌-◌, ◌%◌, ◌^◌, ◌<◌, ◌≤◌, suc, zero, List, [], ◌∷◌, length, arith, ap, refl, sym, ◌∙◌, replicate, subst}
 use Rattle.std.specs.List.{AllByRecursion}
 use Rattle.std.proofs.Math.Path.{ap₂}
@@ -47,6 +48,7 @@ module _ (p e : ℕ) (n : List ℕ) (two : 2 ≤ p) (size : length n ≡ suc e) 
   reduced_D : (x : ℕ) → reduce p (D x) ≡ D x
   reduced_D x = reduce_below p positive (D x) (digits_below p positive (suc e) x)
 
+  -- the digits of a reduced list's number are the list
   pub back : (x : List ℕ) → length x ≡ length n → reduce p x ≡ x → D (number p x) ≡ x
   back x h r =
       ap (λ t. digits p t (number p x)) (sym (h ∙ size)) ∙ digits-number p positive x (subst (AllByRecursion (λ d. d < p)) r (below-reduce p positive x))
@@ -60,6 +62,7 @@ module _ (p e : ℕ) (n : List ℕ) (two : 2 ≤ p) (size : length n ≡ suc e) 
   pub reduced_product : (x y : List ℕ) → reduce p (product_of p n x y) ≡ product_of p n x y
   reduced_product x y = ap (reduce p) (product_is p n x y) ∙ reduce-reduce p (mul n x y) ∙ sym (product_is p n x y)
 
+  -- the digits of a sum, a product, 0 and 1
   D_plus : (x y : ℕ) → D (plus p (suc e) x y) ≡ sum_of p (D x) (D y)
   D_plus x y = back (sum_of p (D x) (D y)) (size_sum (D x) (D y) (size_D x) (size_D y)) (reduce-reduce p (add (D x) (D y)))
 
@@ -82,6 +85,7 @@ module _ (p e : ℕ) (n : List ℕ) (two : 2 ≤ p) (size : length n ≡ suc e) 
       zeros_below zero = tt
       zeros_below (suc m) = (positive, zeros_below m)
 
+  -- each number has a negative
   negative : (x : ℕ) → (y : ℕ) × (y < p ^ suc e) × (plus p (suc e) x y ≡ 0)
   negative x =
       let h : length (opposite p (D x)) ≡ length n = length-opposite p (D x) ∙ size_D x in (
@@ -91,6 +95,7 @@ module _ (p e : ℕ) (n : List ℕ) (two : 2 ≤ p) (size : length n ≡ suc e) 
             ∙ number-zeros p positive (length (D x)),
       )
 
+  -- the ring
   pub ring : IsCommutativeRing (p ^ suc e) (plus p (suc e)) (times p (suc e) n)
   ring = record {
     sums_below = λ x y. number_small (sum_of p (D x) (D y)) (size_sum (D x) (D y) (size_D x) (size_D y)) (reduce-reduce p (add (D x) (D y)));

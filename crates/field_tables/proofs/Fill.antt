@@ -5,6 +5,7 @@ use Rattle.std.proofs.Math.Nat.{add-mod, div-le_self, div-lt_self, mul-div-le, m
 use Rattle.std.proofs.lemmas.Bool.{cases_lt}
 use Rattle.design_base.specs.Rings.{IsCommutativeRing}
 use Rattle.design_base.specs.Fields.{Shape, field_sum, field_product}
+use Rattle.design_base.specs.declared.limits.TheConstants.{POINTS_MAX}
 use Rattle.field_tables.specs.declared.polynomial.Polynomial.{Polynomial}
 use Rattle.field_tables.specs.Tables.{IsListed, IsModular, IsTable, IsValues, by_rows, excess, shape_in, shifted}
 use Rattle.field_tables.proofs.Listed.{IsShapeOf, shape_known}
@@ -22,27 +23,31 @@ module _ (f : Polynomial) (listed : IsListed f) where
   abbrev s : Shape
   s = shape_in f
 
+  -- what is known of it
   pub known : IsShapeOf f.order (shape_in f)
   known = shape_known f.order (shape_in f) listed
 
   pub positive : 0 < f.prime
   positive = let h : 2 ≤ p = known.two in omega arith
 
-  pub small : f.order ≤ 128
+  pub small : f.order ≤ POINTS_MAX
   small = known.small
 
   ring_here : IsCommutativeRing f.order (field_sum f.order) (field_product f.order)
   ring_here = known.field.ring
 
+  -- a prime order computes with remainders
   pub modular : f.order ≡ f.prime → IsModular f.order
   modular same = prime_rule q p f.lower.now listed same
 
+  -- quotients
   smaller : (x : ℕ) → 0 < x → x / p < x
   smaller x h = div-lt_self h known.two
 
   no_larger : (x : ℕ) → x / p ≤ x
   no_larger x = div-le_self x p
 
+  -- the sums: the first, the place of the one that the next is made of, and the next
   pub sum_first : (x y : ℕ) → x * q + y ≡ 0 → x < q → 0 ≡ field_sum q x y
   sum_first x y none h =
       let first : x ≡ 0 = pos_cases x (omega (arith, none)) in
@@ -70,12 +75,14 @@ module _ (f : Polynomial) (listed : IsListed f) where
   pub sum_below : (x y : ℕ) → field_sum q x y < q
   sum_below x y = ring_here.sums_below x y
 
+  -- the products by the polynomial x, while the highest digit is 0
   pub shift_first : (y : ℕ) → y < q / p → p * y ≡ shifted s y
   shift_first y h = sym (shift_rule_low q p f.lower.now listed y h)
 
   pub shift_fits : (y : ℕ) → y < q / p → p * y < q
   shift_fits y h = omega (arith, mul-le-mul_left p h, mul-div-le q p, positive)
 
+  -- and else from an earlier one
   pub before_high : (y : ℕ) → q / p ≤ y → y - q / p < y
   before_high y h = let some : 0 < q / p = high_rule q p f.lower.now listed in omega arith
 
@@ -92,6 +99,7 @@ module _ (f : Polynomial) (listed : IsListed f) where
       e ∙ table_at (field_sum q) q t table a b ha hb
       ∙ ap₂ (field_sum q) ea eb ∙ sym (shift_rule_high q p f.lower.now listed y high h)
 
+  -- the row of 0
   pub product_first : (x y : ℕ) → x ≡ 0 → 0 ≡ field_product q x y
   product_first x y none = sym (ap (λ t. field_product q t y) none ∙ product_rule_zero q p f.lower.now listed y)
 

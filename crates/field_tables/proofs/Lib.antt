@@ -3,6 +3,7 @@ pub mod Multiply
 pub mod Modular
 pub mod Numbers
 pub mod Digits
+pub mod AnyGroup
 pub mod AnyField
 pub mod Search
 pub mod Listed
@@ -12,3 +13,4 @@ pub mod Values
 pub mod Fill
 pub mod Upward
 pub mod Marks
+pub mod GroupSums

@@ -32,6 +32,7 @@ shapes_sound : each_passes is_sound shapes ≡ true
 unfolding shapes each_passes
 shapes_sound = refl
 
+-- the parts of a test
 and_left : (b c : Bool) → (b && c) ≡ true → b ≡ true
 and_left true c h = refl
 and_left false c h = h
@@ -45,6 +46,7 @@ or_right true c h e = absurd (let g = h in cc)
 or_right false c h e = e
 
 module _ (q : ℕ) (add mul : ℕ → ℕ → ℕ) (r : IsCommutativeRing q add mul) where
+  -- a power is an element
   power_below : (x n k : ℕ) → power mul x n k < q
   power_below x zero k = r.one_below
   power_below x (suc n) k = choice (k % 2 == 1) (mul x (power mul (mul x x) n (k / 2))) (power mul (mul x x) n (k / 2)) (r.products_below x (power mul (mul x x) n (k / 2))) (power_below (mul x x) n (k / 2))
@@ -53,6 +55,7 @@ module _ (q : ℕ) (add mul : ℕ → ℕ → ℕ) (r : IsCommutativeRing q add 
       choice true y z hy hz = hy
       choice false y z hy hz = hz
 
+  -- the tested powers are inverses
   from_powers : (n : ℕ) → powers_invert mul q n ≡ true → (x : ℕ) → 0 < x → x < n → (y : ℕ) × (y < q) × (mul x y ≡ 1)
   from_powers zero e x pos lt = absurd (omega arith)
   from_powers (suc n) e x pos lt = elim (cases_lt x n) [
@@ -77,6 +80,7 @@ pub record IsShapeOf (q : ℕ) (s : Shape) : Type 0 where
   pub products : field_product q ≡ product_in (Some s)
   pub field : IsField q (field_sum q) (field_product q)
 
+-- the ring of a polynomial
 shape_ring : (s : Shape) → 2 ≤ s.prime → 1 ≤ length s.lower → IsCommutativeRing (order s) (sum_in (Some s)) (product_in (Some s))
 shape_ring s two one = by s.lower refl one
   where
@@ -87,6 +91,7 @@ shape_ring s two one = by s.lower refl one
         let degree : length s.lower ≡ suc (length cs) = ap length e in
         subst (λ d. IsCommutativeRing (s.prime ^ d) (plus s.prime d) (times s.prime d (negated s))) (sym degree) (ring s.prime (length cs) (negated s) two size)
 
+-- from the tests
 pub shape_known : (q : ℕ) (s : Shape) → shape_of q ≡ Some s → IsShapeOf q s
 unfolding shape_of field_sum field_product
 shape_known q s found =
@@ -123,6 +128,7 @@ listed_field q h = by (shape_of q) refl h
     by None e h = absurd (let g = h in cc)
     by (Some s) e h = (shape_known q s e).field
 
+-- no larger order is listed
 pub listed_small : (q : ℕ) → has_field q ≡ true → q ≤ POINTS_MAX
 listed_small q h = by (shape_of q) refl h
   where
@@ -137,6 +143,7 @@ listed_past q h = by (has_field q) refl
     by true e = absurd (let small : q ≤ POINTS_MAX = listed_small q e in omega arith)
     by false e = e
 
+-- to be listed and to have a field are one
 pub FieldAt-listed : (q : ℕ) → has_field q ≡ true → FieldAt q
 FieldAt-listed q h = by (shape_of q) h
   where
@@ -156,6 +163,7 @@ pub found_fields : {X : Type 0} (o : Option X) (q : ℕ) → is_some o ≡ has_f
 found_fields None q e = (λ h. absurd (let f : false ≡ true = h in cc), λ h. absurd (let f : false ≡ true = e ∙ listed-FieldAt q h in cc))
 found_fields (Some x) q e = (λ h. FieldAt-listed q (sym e), λ h. refl)
 
+-- what a look-up of the order says
 field_order-cases : (q : ℕ) (b : Bool) → is_some (if b then Some q else None) ≡ b
 field_order-cases q true = refl
 field_order-cases q false = refl

@@ -12,6 +12,7 @@ use Rattle.design_base.specs.Fields.{powers_from}
 abbrev pub comes : (ℕ → ℕ → ℕ) → ℕ → ℕ → ℕ → List Bool → ℕ → Bool
 comes mul g power n seen y = slice_index_or seen y false || is_among y (powers_from mul g power n)
 
+-- once there are no more powers
 pub comes_last : (mul : ℕ → ℕ → ℕ) (g power : ℕ) (seen : List Bool) (y : ℕ) → comes mul g power 0 seen y ≡ slice_index_or seen y false
 unfolding powers_from is_among
 comes_last mul g power seen y = by (slice_index_or seen y false)
@@ -20,6 +21,7 @@ comes_last mul g power seen y = by (slice_index_or seen y false)
     by true = refl
     by false = refl
 
+-- the next power is marked
 pub comes_step : (mul : ℕ → ℕ → ℕ) (g power n : ℕ) (seen : List Bool) (y : ℕ) → power < length seen →
     comes mul g power (suc n) seen y ≡ comes mul g (mul power g) n (slice_set seen power true) y
 unfolding powers_from is_among

@@ -1,3 +1,4 @@
+-- Sums and products modulo p: each step may be reduced, or only the result.
 use Rattle.std.proofs.Common.{◌≡◌, ℕ, ◌*◌, ◌%◌, suc, List, [], ◌∷◌, length, arith, ap, refl, sym, ◌∙◌}
 use Rattle.std.proofs.Math.Path.{ap₂}
 use Rattle.std.proofs.Math.Nat.{add-mod, mod-mod, zero-mod}
@@ -8,6 +9,7 @@ use Rattle.field_tables.proofs.Linear.{add_comm, add_assoc}
 use Rattle.field_tables.proofs.Multiply.{one, length-mul, mul_comm, mul_assoc, mul-add, mul-one}
 
 module _ (p : ℕ) where
+  -- reducing
   pub reduce-reduce : (x : List ℕ) → reduce p (reduce p x) ≡ reduce p x
   reduce-reduce [] = refl
   reduce-reduce (x ∷ xs) = ap₂ ◌∷◌ (mod-mod x p) (reduce-reduce xs)
@@ -16,6 +18,7 @@ module _ (p : ℕ) where
   length-reduce [] = refl
   length-reduce (x ∷ xs) = ap suc (length-reduce xs)
 
+  -- reducing first makes no difference
   reduce-add : (x y : List ℕ) → reduce p (add x y) ≡ reduce p (add (reduce p x) (reduce p y))
   reduce-add [] y = refl
   reduce-add (x ∷ xs) [] = refl
@@ -41,6 +44,7 @@ module _ (p : ℕ) where
   abbrev pub IsLike : List ℕ → List ℕ → Type 0
   IsLike x y = reduce p x ≡ reduce p y
 
+  -- the operations respect it
   pub add_like : (a b c d : List ℕ) → IsLike a b → IsLike c d → IsLike (add a c) (add b d)
   add_like a b c d e f = reduce-add a c ∙ ap₂ (λ s t. reduce p (add s t)) e f ∙ sym (reduce-add b d)
 
@@ -74,6 +78,7 @@ module _ (p : ℕ) where
     product_is (a ∷ x) y = add_like (scale a y) (scale a y) (product_of p n x (reduce p (shift n y))) (mul n x (shift n y)) refl
         (ap (reduce p) (product_is x (reduce p (shift n y))) ∙ reduce-reduce (mul n x (reduce p (shift n y))) ∙ mul_like x (reduce p (shift n y)) (shift n y) (reduce-reduce (shift n y)))
 
+  -- the laws of a ring, modulo p
   pub sum_comm : (x y : List ℕ) → sum_of p x y ≡ sum_of p y x
   sum_comm x y = ap (reduce p) (add_comm x y)
 

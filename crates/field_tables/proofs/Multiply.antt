@@ -1,3 +1,4 @@
+-- Products of polynomials where x ^ e is the polynomial n, with no modulus.
 use Rattle.std.proofs.Common.{◌≡◌, ℕ, ◌+◌, ◌*◌, suc, zero, List, [], ◌∷◌, ◌++◌, length, arith, ap, refl, sym, ◌∙◌, replicate, length-append}
 use Rattle.std.proofs.Math.Path.{ap₂}
 use Rattle.std.proofs.Math.Nat.{suc_inj}
@@ -6,6 +7,7 @@ use Rattle.design_base.specs.Polynomials.{add, scale, pushed, top, shift, mul}
 use Rattle.field_tables.proofs.Linear.{add_swap, scale-add, add-scale, scale-scale, length-add, length-scale, length-pushed, pushed-add, top-add, pushed-scale, top-scale}
 
 module _ (n : List ℕ) where
+  -- shifts are linear
   pub length-shift : (y : List ℕ) → length y ≡ length n → length (shift n y) ≡ length n
   length-shift y e = length-add (pushed 0 y) (scale (top 0 y) n) (length-pushed 0 y ∙ e ∙ sym (length-scale (top 0 y) n)) ∙ length-pushed 0 y ∙ e
 
@@ -22,6 +24,7 @@ module _ (n : List ℕ) where
       ∙ ap (add (scale c (pushed 0 y))) (sym (scale-scale c (top 0 y) n))
       ∙ sym (scale-add c (pushed 0 y) (scale (top 0 y) n))
 
+  -- products are linear in the second factor
   pub length-mul : (x y : List ℕ) → length y ≡ length n → length (mul n x y) ≡ length n
   length-mul [] y e = length-scale 0 y ∙ e
   length-mul (a ∷ x) y e = length-add (scale a y) (mul n x (shift n y)) (length-scale a y ∙ e ∙ sym (length-mul x (shift n y) (length-shift y e))) ∙ length-scale a y ∙ e
@@ -53,6 +56,7 @@ module _ (n : List ℕ) where
       mul-add x (scale a y) (mul n z (shift n y)) (length-scale a y ∙ e ∙ sym (length-mul z (shift n y) (length-shift y e))) (length-mul z (shift n y) (length-shift y e))
       ∙ ap₂ add (mul-scale x a y) (mul_exchange x z (shift n y) (length-shift y e) ∙ ap (mul n z) (mul-shift x y e))
 
+-- shifts of a list that ends in zeros
 top-zeros : (a m : ℕ) (x : List ℕ) → top a (x ++ replicate (suc m) 0) ≡ 0
 top-zeros a zero [] = refl
 top-zeros a (suc m) [] = top-zeros 0 m []
@@ -66,6 +70,7 @@ pushed-zeros : (a m : ℕ) (x : List ℕ) → pushed a (x ++ replicate (suc m) 0
 pushed-zeros a m [] = ap (λ t. a ∷ t) (pushed_zeros m)
 pushed-zeros a m (x ∷ xs) = ap (λ t. a ∷ t) (pushed-zeros x m xs)
 
+-- zeros add nothing
 pub add-zeros : (x y : List ℕ) → length x ≡ length y → add x (scale 0 y) ≡ x
 add-zeros [] y e = refl
 add-zeros (x ∷ xs) [] e = cc
@@ -89,11 +94,13 @@ module _ (n : List ℕ) (e : ℕ) (size : length n ≡ suc e) where
   length-one : length (one e) ≡ length n
   length-one = ap suc (length-replicate e 0) ∙ sym size
 
+  -- a shift has nothing that goes out where the highest coefficient is 0
   pub shift-padded : (m : ℕ) (x : List ℕ) → length x + suc m ≡ suc e → shift n (x ++ replicate (suc m) 0) ≡ 0 ∷ (x ++ replicate m 0)
   shift-padded m x h =
       ap₂ (λ s t. add s (scale t n)) (pushed-zeros 0 m x) (top-zeros 0 m x)
       ∙ add-zeros (0 ∷ (x ++ replicate m 0)) n (ap suc (length-append x (replicate m 0)) ∙ (let f : suc (length x + length (replicate m 0)) ≡ length n = omega (arith, h, size, length-replicate {A = ℕ} m 0) in f))
 
+  -- the product with 1 is the list with zeros to its full length
   mul-padded : (x : List ℕ) (m : ℕ) → length x + m ≡ suc e → mul n x (one e) ≡ x ++ replicate m 0
   mul-padded [] m h =
       ap₂ ◌∷◌ (let f : 0 * 1 ≡ 0 = omega arith in f) (scale_zeros 0 e) ∙ ap (λ t. replicate t 0) (let f : suc e ≡ m = omega (arith, h) in f)
@@ -106,6 +113,7 @@ module _ (n : List ℕ) (e : ℕ) (size : length n ≡ suc e) where
   pub mul-one : (x : List ℕ) → length x ≡ length n → mul n x (one e) ≡ x
   mul-one x h = mul-padded x 0 (omega (arith, h, size)) ∙ append-nil x
 
+  -- the laws of a ring
   pub mul_comm : (x y : List ℕ) → length x ≡ length n → length y ≡ length n → mul n x y ≡ mul n y x
   mul_comm x y hx hy = ap (mul n x) (sym (mul-one y hy)) ∙ mul_exchange n x y (one e) length-one ∙ ap (mul n y) (mul-one x hx)
 

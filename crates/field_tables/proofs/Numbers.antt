@@ -1,3 +1,4 @@
+-- Numbers below p ^ e as lists of e digits.
 use Rattle.std.proofs.Common.{◌≡◌, ℕ, ◌+◌, ◌*◌, ◌/◌, ◌%◌, ◌^◌, ◌<◌, ◌≤◌, suc, zero, List, [], ◌∷◌, length, arith, ap, refl, sym, ◌∙◌, replicate, subst}
 use Rattle.std.specs.List.{AllByRecursion}
 use Rattle.std.proofs.Math.Path.{ap₂}
@@ -5,6 +6,7 @@ use Rattle.std.proofs.Math.Nat.{mod-eq_of_lt, mod-lt, add-mul-mod_self_left, add
 use Rattle.design_base.specs.Digits.{reduce, digits, number}
 
 module _ (p : ℕ) (positive : 0 < p) where
+  -- the digits of a number
   pub length-digits : (e x : ℕ) → length (digits p e x) ≡ e
   length-digits zero x = refl
   length-digits (suc e) x = ap suc (length-digits e (x / p))
@@ -13,6 +15,7 @@ module _ (p : ℕ) (positive : 0 < p) where
   digits_below zero x = tt
   digits_below (suc e) x = (mod-lt x positive, digits_below e (x / p))
 
+  -- digits below p are reduced
   pub reduce_below : (x : List ℕ) → AllByRecursion (λ d. d < p) x → reduce p x ≡ x
   reduce_below [] h = refl
   reduce_below (x ∷ xs) h = ap₂ ◌∷◌ (mod-eq_of_lt h.0) (reduce_below xs h.1)
@@ -21,6 +24,7 @@ module _ (p : ℕ) (positive : 0 < p) where
   below-reduce [] = tt
   below-reduce (x ∷ xs) = (mod-lt x positive, below-reduce xs)
 
+  -- the number of the digits, and the digits of the number
   pub number-digits : (e x : ℕ) → x < p ^ e → number p (digits p e x) ≡ x
   number-digits zero x h = omega (arith, pow-zero p)
   number-digits (suc e) x h =
@@ -38,6 +42,7 @@ module _ (p : ℕ) (positive : 0 < p) where
       (let part : p * suc (number p ds) ≤ p * p ^ length ds = mul-le-mul_left p (number_below ds h.1) in
       let first : d < p = h.0 in omega arith)
 
+  -- zeros
   pub number-zeros : (e : ℕ) → number p (replicate e 0) ≡ 0
   number-zeros zero = refl
   number-zeros (suc e) = omega (arith, ap (λ t. p * t) (number-zeros e))

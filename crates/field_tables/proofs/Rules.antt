@@ -42,6 +42,7 @@ module _ (q p c : ℕ) (cs : List ℕ) (found : shape_of q ≡ Some (shape p (c 
   unfolding n
   product_is x y = ap (λ f. f x y) known.products
 
+  -- the six rules, where the degree is known
   sum_here : (x y : ℕ) → x < q → y < q → field_sum q x y ≡ (x % p + y % p) % p + p * field_sum q (x / p) (y / p)
   sum_here x y hx hy = sum_is x y ∙ ap (λ t. (x % p + y % p) % p + p * t)
       (sym (steps.plus-wider p known.two (length cs) (x / p) (y / p) (rest x hx) (rest y hy)) ∙ sym (sum_is (x / p) (y / p)))

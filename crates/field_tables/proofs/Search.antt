@@ -28,6 +28,7 @@ pub found_later : (q : ℕ) (f : Polynomial) (fs : List Polynomial) → order (s
 unfolding first_in
 found_later q f fs e = ap (λ b. elim b [ true ↦ Some (shape_in f) | false ↦ found_in q fs ]) (ne_eqb (order (shape_in f)) q e)
 
+-- the first element passes, and the rest
 pub each_first : {X : Type 0} (test : X → Bool) (x : X) (xs : List X) → each_passes test (x ∷ xs) ≡ true → (test x ≡ true) × (each_passes test xs ≡ true)
 unfolding each_passes
 each_first test x xs h = by (test x) refl h

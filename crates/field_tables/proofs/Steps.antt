@@ -15,6 +15,7 @@ use Rattle.field_tables.proofs.Digits.{ring, back, reduced_product, size_D}
 use Rattle.field_tables.proofs.AnyField.{mul-zero, distribute_right}
 
 module _ (p : ℕ) (two : 2 ≤ p) where
+  -- p is not 0
   positive : 0 < p
   positive = omega arith
 
@@ -86,6 +87,7 @@ module _ (p : ℕ) (two : 2 ≤ p) where
       ∙ ap₂ (λ s t. top s (digits p (suc e) t)) (lowest_same u (p ^ e)) (rest_more u (p ^ e))
       ∙ top-raised e (u % p) (u / p) below
 
+  -- once a polynomial
   scale-one : (x : List ℕ) → scale 1 x ≡ x
   scale-one [] = refl
   scale-one (x ∷ xs) = ap₂ ◌∷◌ (let f : 1 * x ≡ x = omega arith in f) (scale-one xs)
@@ -111,6 +113,7 @@ module _ (p : ℕ) (two : 2 ≤ p) where
         ∙ ap₂ (λ s t. s + p * t) (zero-mod p) (ap (number p) (reduce_below p positive (digits p e y) (digits_below p positive e y)) ∙ number-digits p positive e y h)
         ∙ omega arith
 
+    -- one more at the highest digit brings n in once more
     shift_raised : (u : ℕ) → u + p ^ e < p ^ suc e → shift n (digits p (suc e) (u + p ^ e)) ≡ add (shift n (digits p (suc e) u)) n
     shift_raised u h =
         let D = digits p (suc e) u in
@@ -134,15 +137,18 @@ module _ (p : ℕ) (two : 2 ≤ p) where
     abbrev pub R : IsCommutativeRing (p ^ suc e) (plus p (suc e)) (times p (suc e) n)
     R = ring p e n two size
 
+    -- a product by 0
     pub times_zero : (y : ℕ) → times p (suc e) n 0 y ≡ 0
     times_zero y = R.products_commute 0 y ∙ mul-zero (p ^ suc e) (plus p (suc e)) (times p (suc e) n) R y
 
+    -- a product by an element that is 1 more than another
     pub times_next : (x y : ℕ) → x < p ^ suc e → y < p ^ suc e → x % p ≢ 0 → times p (suc e) n x y ≡ plus p (suc e) (times p (suc e) n (x - 1) y) y
     times_next x y hx hy ne =
         ap (λ t. times p (suc e) n t y) (sym (plus_next e x hx ne))
         ∙ distribute_right (p ^ suc e) (plus p (suc e)) (times p (suc e) n) R (x - 1) 1 y
         ∙ ap (plus p (suc e) (times p (suc e) n (x - 1) y)) (R.products_commute 1 y ∙ R.one_neutral y hy)
 
+    -- a highest coefficient 0 of the first factor does nothing
     product-padded : (x y : List ℕ) → length y ≡ length n → product_of p n (x ++ (0 ∷ [])) y ≡ product_of p n x y
     product-padded [] y h =
         let Y = reduce p (shift n y) in
@@ -150,6 +156,7 @@ module _ (p : ℕ) (two : 2 ≤ p) where
         ∙ sym (reduce-zeros p n y)
     product-padded (a ∷ x) y h = ap (λ t. reduce p (add (scale a y) t)) (product-padded x (reduce p (shift n y)) (length-reduce p (shift n y) ∙ length-shift n y h))
 
+    -- a lowest coefficient 0 of the first factor shifts the second
     product-zero_first : (x y : List ℕ) → length y ≡ length n → product_of p n (0 ∷ x) y ≡ product_of p n x (reduce p (shift n y))
     product-zero_first x y h =
         let Y = reduce p (shift n y) in

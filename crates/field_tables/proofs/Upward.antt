@@ -3,6 +3,7 @@ use Rattle.std.proofs.Common.{◌≡◌, ℕ, ◌+◌, ◌-◌, ◌<◌, ◌≤�
 use Rattle.counting.specs.Sums.{join_below, list_below}
 use Rattle.counting.specs.Search.{each_passes, first_in, upward}
 
+-- the least number of a range comes first
 from_low : (n low : ℕ) → list_below (suc n) (λ i. low + i) ≡ low ∷ list_below n (λ i. (low + 1) + i)
 unfolding join_below
 from_low zero low = ap (λ t. t ∷ []) (let e : low + 0 ≡ low = omega arith in e)

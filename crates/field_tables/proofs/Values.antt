@@ -8,20 +8,23 @@ use Rattle.std.proofs.lemmas.Nat.{mod-mul-add}
 use Rattle.std.proofs.lemmas.Bool.{cases_lt}
 use Rattle.field_tables.specs.Tables.{IsValues, IsTable, by_rows}
 
+-- the row of a place
+row_of : (q x y : ℕ) → y < q → (x * q + y) / q ≡ x
+row_of q x y below = let positive : 0 < q = omega arith in mul-add-div_right positive x y ∙ ap (λ t. x + t) (div-eq_of_lt below) ∙ omega arith
+
 -- the entry in row x and column y
 pub row_at : (f : ℕ → ℕ → ℕ) (q : ℕ) (t : List ℕ) → IsValues (by_rows f q) t → (x y : ℕ) → y < q → x * q + y < length t → slice_index t (x * q + y) ≡ f x y
-row_at f q t h x y below inside =
-    let positive : 0 < q = omega arith in
-    let row : (x * q + y) / q ≡ x = mul-add-div_right positive x y ∙ ap (λ t. x + t) (div-eq_of_lt below) ∙ omega arith in
-    h (x * q + y) inside ∙ ap₂ f row (mod-mul-add x q y below)
+row_at f q t h x y below inside = h (x * q + y) inside ∙ ap₂ f (row_of q x y below) (mod-mul-add x q y below)
 
 -- an entry of an earlier row comes before
 pub earlier : (q a x b y : ℕ) → a < x → b < q → a * q + b < x * q + y
 earlier q a x b y h k = omega (arith, mul-le-mul_right q h)
 
+-- each entry stands in the table
 pub in_table : (q x y : ℕ) → x < q → y < q → x * q + y < q * q
 in_table q x y hx hy = omega (arith, earlier q x q y 0 hx hy)
 
+-- an entry of a whole table
 pub table_at : (f : ℕ → ℕ → ℕ) (q : ℕ) (t : List ℕ) → IsTable f q t → (x y : ℕ) → x < q → y < q → slice_index t (x * q + y) ≡ f x y
 table_at f q t h x y hx hy = row_at f q t h.entries x y hy (omega (arith, in_table q x y hx hy, h.size))
 
@@ -33,6 +36,11 @@ values_push f t v h e k inside = elim (cases_lt k (length t)) [
       let here : k ≡ length t = omega (arith, length-append t (v ∷ [])) in
       ap (λ i. slice_index (t ++ (v ∷ [])) i) here ∙ get_or-append_seam t v [] 0 ∙ e ∙ ap f (sym here)
 ]
+
+-- the next entry of a row
+pub row_push : (f : ℕ → ℕ → ℕ) (q : ℕ) (t : List ℕ) (x y v : ℕ) → IsValues (by_rows f q) t → length t ≡ x * q + y → y < q → v ≡ f x y → IsValues (by_rows f q) (t ++ (v ∷ []))
+row_push f q t x y v h size below e =
+    values_push (by_rows f q) t v h (e ∙ sym (ap (by_rows f q) size ∙ ap₂ f (row_of q x y below) (mod-mul-add x q y below)))
 
 -- the next solution, which a number below low has no need of
 pub solved_push : (f : ℕ → ℕ → ℕ) (target low q : ℕ) (t : List ℕ) (v : ℕ) →

@@ -11,228 +11,63 @@ pub struct Polynomial {
     pub lower: &'static [u16],
 }
 
+// A row of the list.
+macro_rules! polynomial {
+    ($order:literal, $prime:literal, $lower:expr) => {
+        Polynomial {
+            order: $order,
+            prime: $prime,
+            lower: $lower,
+        }
+    };
+}
+
 /// The listed polynomials. A prime order has the polynomial x.
 static LISTED: [Polynomial; 44] = [
-    Polynomial {
-        order: 2,
-        prime: 2,
-        lower: &[0],
-    },
-    Polynomial {
-        order: 3,
-        prime: 3,
-        lower: &[0],
-    },
-    Polynomial {
-        order: 4,
-        prime: 2,
-        lower: &[1, 1],
-    },
-    Polynomial {
-        order: 5,
-        prime: 5,
-        lower: &[0],
-    },
-    Polynomial {
-        order: 7,
-        prime: 7,
-        lower: &[0],
-    },
-    Polynomial {
-        order: 8,
-        prime: 2,
-        lower: &[1, 1, 0],
-    },
-    Polynomial {
-        order: 9,
-        prime: 3,
-        lower: &[1, 0],
-    },
-    Polynomial {
-        order: 11,
-        prime: 11,
-        lower: &[0],
-    },
-    Polynomial {
-        order: 13,
-        prime: 13,
-        lower: &[0],
-    },
-    Polynomial {
-        order: 16,
-        prime: 2,
-        lower: &[1, 1, 0, 0],
-    },
-    Polynomial {
-        order: 17,
-        prime: 17,
-        lower: &[0],
-    },
-    Polynomial {
-        order: 19,
-        prime: 19,
-        lower: &[0],
-    },
-    Polynomial {
-        order: 23,
-        prime: 23,
-        lower: &[0],
-    },
-    Polynomial {
-        order: 25,
-        prime: 5,
-        lower: &[2, 0],
-    },
-    Polynomial {
-        order: 27,
-        prime: 3,
-        lower: &[1, 2, 0],
-    },
-    Polynomial {
-        order: 29,
-        prime: 29,
-        lower: &[0],
-    },
-    Polynomial {
-        order: 31,
-        prime: 31,
-        lower: &[0],
-    },
-    Polynomial {
-        order: 32,
-        prime: 2,
-        lower: &[1, 0, 1, 0, 0],
-    },
-    Polynomial {
-        order: 37,
-        prime: 37,
-        lower: &[0],
-    },
-    Polynomial {
-        order: 41,
-        prime: 41,
-        lower: &[0],
-    },
-    Polynomial {
-        order: 43,
-        prime: 43,
-        lower: &[0],
-    },
-    Polynomial {
-        order: 47,
-        prime: 47,
-        lower: &[0],
-    },
-    Polynomial {
-        order: 49,
-        prime: 7,
-        lower: &[1, 0],
-    },
-    Polynomial {
-        order: 53,
-        prime: 53,
-        lower: &[0],
-    },
-    Polynomial {
-        order: 59,
-        prime: 59,
-        lower: &[0],
-    },
-    Polynomial {
-        order: 61,
-        prime: 61,
-        lower: &[0],
-    },
-    Polynomial {
-        order: 64,
-        prime: 2,
-        lower: &[1, 1, 0, 0, 0, 0],
-    },
-    Polynomial {
-        order: 67,
-        prime: 67,
-        lower: &[0],
-    },
-    Polynomial {
-        order: 71,
-        prime: 71,
-        lower: &[0],
-    },
-    Polynomial {
-        order: 73,
-        prime: 73,
-        lower: &[0],
-    },
-    Polynomial {
-        order: 79,
-        prime: 79,
-        lower: &[0],
-    },
-    Polynomial {
-        order: 81,
-        prime: 3,
-        lower: &[2, 1, 0, 0],
-    },
-    Polynomial {
-        order: 83,
-        prime: 83,
-        lower: &[0],
-    },
-    Polynomial {
-        order: 89,
-        prime: 89,
-        lower: &[0],
-    },
-    Polynomial {
-        order: 97,
-        prime: 97,
-        lower: &[0],
-    },
-    Polynomial {
-        order: 101,
-        prime: 101,
-        lower: &[0],
-    },
-    Polynomial {
-        order: 103,
-        prime: 103,
-        lower: &[0],
-    },
-    Polynomial {
-        order: 107,
-        prime: 107,
-        lower: &[0],
-    },
-    Polynomial {
-        order: 109,
-        prime: 109,
-        lower: &[0],
-    },
-    Polynomial {
-        order: 113,
-        prime: 113,
-        lower: &[0],
-    },
-    Polynomial {
-        order: 121,
-        prime: 11,
-        lower: &[1, 0],
-    },
-    Polynomial {
-        order: 125,
-        prime: 5,
-        lower: &[1, 1, 0],
-    },
-    Polynomial {
-        order: 127,
-        prime: 127,
-        lower: &[0],
-    },
-    Polynomial {
-        order: 128,
-        prime: 2,
-        lower: &[1, 1, 0, 0, 0, 0, 0],
-    },
+    polynomial!(2, 2, &[0]),
+    polynomial!(3, 3, &[0]),
+    polynomial!(4, 2, &[1, 1]),
+    polynomial!(5, 5, &[0]),
+    polynomial!(7, 7, &[0]),
+    polynomial!(8, 2, &[1, 1, 0]),
+    polynomial!(9, 3, &[1, 0]),
+    polynomial!(11, 11, &[0]),
+    polynomial!(13, 13, &[0]),
+    polynomial!(16, 2, &[1, 1, 0, 0]),
+    polynomial!(17, 17, &[0]),
+    polynomial!(19, 19, &[0]),
+    polynomial!(23, 23, &[0]),
+    polynomial!(25, 5, &[2, 0]),
+    polynomial!(27, 3, &[1, 2, 0]),
+    polynomial!(29, 29, &[0]),
+    polynomial!(31, 31, &[0]),
+    polynomial!(32, 2, &[1, 0, 1, 0, 0]),
+    polynomial!(37, 37, &[0]),
+    polynomial!(41, 41, &[0]),
+    polynomial!(43, 43, &[0]),
+    polynomial!(47, 47, &[0]),
+    polynomial!(49, 7, &[1, 0]),
+    polynomial!(53, 53, &[0]),
+    polynomial!(59, 59, &[0]),
+    polynomial!(61, 61, &[0]),
+    polynomial!(64, 2, &[1, 1, 0, 0, 0, 0]),
+    polynomial!(67, 67, &[0]),
+    polynomial!(71, 71, &[0]),
+    polynomial!(73, 73, &[0]),
+    polynomial!(79, 79, &[0]),
+    polynomial!(81, 3, &[2, 1, 0, 0]),
+    polynomial!(83, 83, &[0]),
+    polynomial!(89, 89, &[0]),
+    polynomial!(97, 97, &[0]),
+    polynomial!(101, 101, &[0]),
+    polynomial!(103, 103, &[0]),
+    polynomial!(107, 107, &[0]),
+    polynomial!(109, 109, &[0]),
+    polynomial!(113, 113, &[0]),
+    polynomial!(121, 11, &[1, 0]),
+    polynomial!(125, 5, &[1, 1, 0]),
+    polynomial!(127, 127, &[0]),
+    polynomial!(128, 2, &[1, 1, 0, 0, 0, 0, 0]),
 ];
 
 impl Polynomial {

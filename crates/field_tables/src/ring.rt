@@ -1,4 +1,4 @@
-ghost use Rattle.std.specs.Prelude.{IfOk, MatchOption, length, slice_index, true, ◌*◌, ◌+◌, ◌<◌, ◌≡◌, ℕ};
+ghost use Rattle.std.specs.Prelude.{IfOk, MatchOption, length, slice_index, true, ◌%◌, ◌*◌, ◌+◌, ◌<◌, ◌^◌, ◌≡◌, ◌≤◌, ℕ};
 ghost use Rattle.design_base.specs.Fields.{field_product, field_sum, has_field};
 ghost use Rattle.field_tables.specs.Tables.{IsListed, IsModular, IsTable, IsValues, by_rows, shape_in, shifted};
 
@@ -69,7 +69,7 @@ impl Ring {
         ensures below { result < self.now }
     {
         match &self.tables {
-            None => (x + y) % self.order,
+            None => add_modulo(self.order, x, y),
             Some(tables) => entry(&tables.sums, self.order, x, y),
         }
     }
@@ -88,6 +88,16 @@ impl Ring {
     }
 }
 
+// The sum of two remainders.
+fn add_modulo(order: u16, x: u16, y: u16) -> u16
+    requires x_below { x < order }
+    requires y_below { y < order }
+    requires room { order ≤ 2 ^ 15 }
+    ensures { result ≡ (x + y) % order }
+{
+    if x + y < order { x + y } else { x + y - order }
+}
+
 // The entry in row x and column y.
 fn entry(table: &[u8], order: u16, x: u16, y: u16) -> u16
     requires { x * order + y < length table.now }
@@ -102,10 +112,11 @@ fn sum_table(alloc: Global, polynomial: &Polynomial) -> Result<Vec<u8>, Memory>
     ensures { IfOk result (λ t. IsTable (field_sum polynomial.now.order) polynomial.now.order t.items) }
 {
     let mut sums = Vec::new(alloc);
-    let width = polynomial.order as u32;
-    for k in 0..width * width {
-        let sum = next_sum(polynomial, &sums, (k / width) as u16, (k % width) as u16);
-        sums.push(sum as u8)?;
+    for x in 0..polynomial.order {
+        for y in 0..polynomial.order {
+            let sum = next_sum(polynomial, &sums, x, y);
+            sums.push(sum as u8)?;
+        }
     }
     Ok(sums)
 }
@@ -174,12 +185,11 @@ fn product_table(
     ensures { IfOk result (λ t. IsTable (field_product polynomial.now.order) polynomial.now.order t.items) }
 {
     let mut products = Vec::new(alloc);
-    let width = polynomial.order as u32;
-    for k in 0..width * width {
-        let x = (k / width) as u16;
-        let y = (k % width) as u16;
-        let product = next_product(polynomial, sums, shifts, &products, x, y);
-        products.push(product as u8)?;
+    for x in 0..polynomial.order {
+        for y in 0..polynomial.order {
+            let product = next_product(polynomial, sums, shifts, &products, x, y);
+            products.push(product as u8)?;
+        }
     }
     Ok(products)
 }

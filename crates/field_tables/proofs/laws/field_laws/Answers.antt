@@ -2,6 +2,7 @@ use Rattle.std.proofs.Common.{[], ◌∷◌, length, arith, refl}
 use Rattle.field_tables.specs.Laws.{RingLaw}
 use Rattle.field_tables.proofs.Digits.{ring}
 use Rattle.field_tables.proofs.Listed.{FieldAt-listed, listed-FieldAt, listed_field}
+use Rattle.field_tables.proofs.GroupSums.{group_sums}
 use Rattle.field_tables.proofs.laws.field_laws.Goals as goal
 
 rings : RingLaw
@@ -13,4 +14,5 @@ returns c = record {
   rings = rings;
   listed = λ q. (listed-FieldAt q, FieldAt-listed q);
   fields = listed_field;
+  groups = group_sums;
 }

@@ -4,8 +4,8 @@ use Rattle.field_tables.proofs.Listed.{listed_small, listed_field}
 use Rattle.field_tables.proofs.Values.{table_at}
 use Rattle.field_tables.proofs.ring.Ring.add.Goals as goal
 
-pub overflow_add-result : goal.overflow_add-result
-overflow_add-result c = omega (arith, listed_small c.self.inside.order c.self.invariant.0)
+pub add_modulo-requires-clause-room : goal.add_modulo-requires-clause-room
+add_modulo-requires-clause-room c = omega (arith, listed_small c.self.inside.order c.self.invariant.0)
 
 pub returns-in-Some-clause-sum : goal.returns-in-Some-clause-sum
 returns-in-Some-clause-sum c =
