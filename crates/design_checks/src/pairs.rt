@@ -1,7 +1,7 @@
 //! The first two points that stand together in another number of blocks than they are to.
 ghost use Rattle.std.specs.Prelude.{◌≡◌, ◌==◌, ◌+◌, ◌*◌, ◌-◌, ◌/◌, ◌^◌, ◌<◌, ◌≤◌, ◌↔◌, All, IsTrue, MatchOption, cond, length, nat_lt, slice_index, ℕ};
 ghost use Rattle.design_base.specs.Blocks.{cover};
-ghost use Rattle.design_checks.specs.Counts.{Agree, IsFirstBad, IsRow, IsWanted, Parts, cell, want};
+ghost use Rattle.design_checks.specs.Counts.{Agree, IsFirstBad, IsRow, IsWanted, IsFirstDifference, cell, want};
 ghost use Rattle.design_checks.specs.declared.scratch.TheConstants.{LINES, WIDTH};
 
 use crate::counts::count_rows;
@@ -50,7 +50,7 @@ fn first_bad_partner(counts: &[u32], base: usize, wanted: Wanted, v: u16, x: u16
     requires wanted { IsWanted wanted }
     requires points { (x < v) × (v ≤ WIDTH) }
     requires line { (base + v ≤ length counts.now) × (length counts.now < 2 ^ 32) }
-    ensures { MatchOption result (Agree (λ y. slice_index counts.now (base + y)) (want wanted x) (x + 1) v) (λ y. Parts (λ y. slice_index counts.now (base + y)) (want wanted x) (x + 1) v y) }
+    ensures { MatchOption result (Agree (λ y. slice_index counts.now (base + y)) (want wanted x) (x + 1) v) (λ y. IsFirstDifference (λ y. slice_index counts.now (base + y)) (want wanted x) (x + 1) v y) }
 {
     let (end, times) = partners(wanted, x);
     let next = x as usize + 1;
