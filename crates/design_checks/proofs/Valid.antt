@@ -10,7 +10,7 @@ use Rattle.design_base.specs.Blocks.{IsBlock, IsDesign, IsDf, cover, differences
 use Rattle.design_base.specs.Limits.{within}
 use Rattle.design_checks.proofs.Increasing.{increasing_from_test, test_from_increasing}
 use Rattle.design_checks.proofs.Search.{below_none, found_below, found_single, none_below, none_position, none_single, position_none, single_none}
-use Rattle.design_checks.specs.Counts.{Agree, IsFirstBad, IsRow, Parts}
+use Rattle.design_checks.specs.Counts.{Agree, IsFirstBad, IsRow, IsFirstDifference}
 use Rattle.design_checks.specs.Findings.{block_finding, design_finding, family_finding, is_block, pair_finding, pairs, pairs_of, rises}
 use Rattle.design_checks.specs.declared.finding.Finding.{Finding}
 use Rattle.design_checks.specs.declared.finding.Finding.TheVariants.{BadBlock, BadPair, Valid}
@@ -34,8 +34,8 @@ module _ (counts want : ℕ → ℕ → ℕ) where
         let f = below_none differs (v - (x + 1)) (λ i. (x, x + 1 + i) ∷ []) e i (omega arith) in
         subst (λ z. counts x z ≡ want x z) s (eqb-true _ _ (not-false _ (single_none differs (x, x + 1 + i) f)))
 
-    pub parts_found : (y : ℕ) → Parts (counts x) (want x) (x + 1) v y → first_in differs (pairs_of v x) ≡ Some (x, y)
-    parts_found y p = let i = y - (x + 1) in
+    pub partner_found : (y : ℕ) → IsFirstDifference (counts x) (want x) (x + 1) v y → first_in differs (pairs_of v x) ≡ Some (x, y)
+    partner_found y p = let i = y - (x + 1) in
         let above = p.above in
         let below = p.below in
         let s : x + 1 + i ≡ y = omega arith in
@@ -59,7 +59,7 @@ module _ (counts want : ℕ → ℕ → ℕ) where
 
     pub first_bad_pair : (p : Pair) → IsFirstBad counts want v 0 v p → pair_finding counts want (pairs v) ≡ BadPair p.x p.y p.count
     first_bad_pair p b =
-        rw (found_below differs v p.x (pairs_of v) (p.x, p.y) b.below (λ x l. agree_none v x (b.before x (omega arith) l)) (parts_found v p.x p.y b.parts), pair_finding) (ap (BadPair p.x p.y) (sym b.count))
+        rw (found_below differs v p.x (pairs_of v) (p.x, p.y) b.below (λ x l. agree_none v x (b.before x (omega arith) l)) (partner_found v p.x p.y b.partner), pair_finding) (ap (BadPair p.x p.y) (sym b.count))
 
     pub valid_pairs : pair_finding counts want (pairs v) ≡ Valid → (x y : ℕ) → x < y → y < v → counts x y ≡ want x y
     valid_pairs e x y l m = none_agree v x (below_none differs v (pairs_of v) (valid_none (pairs v) e) x (omega arith)) y (omega arith) m

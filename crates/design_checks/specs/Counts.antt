@@ -37,7 +37,7 @@ abbrev pub Agree : (ℕ → ℕ) → (ℕ → ℕ) → ℕ → ℕ → Type 0
 Agree f g low high = (i : ℕ) → low ≤ i → i < high → f i ≡ g i
 
 -- i is the first number at which two functions differ, from low on, below high
-pub record Parts (f g : ℕ → ℕ) (low high i : ℕ) : Type 0 where
+pub record IsFirstDifference (f g : ℕ → ℕ) (low high i : ℕ) : Type 0 where
   pub above : low ≤ i
   pub below : i < high
   pub differ : f i ≢ g i
@@ -47,6 +47,6 @@ pub record Parts (f g : ℕ → ℕ) (low high i : ℕ) : Type 0 where
 pub record IsFirstBad (counts wanted : ℕ → ℕ → ℕ) (v low high : ℕ) (p : Pair) : Type 0 where
   pub above : low ≤ p.x
   pub below : p.x < high
-  pub parts : Parts (counts p.x) (wanted p.x) (p.x + 1) v p.y
+  pub partner : IsFirstDifference (counts p.x) (wanted p.x) (p.x + 1) v p.y
   pub before : (x : ℕ) → low ≤ x → x < p.x → Agree (counts x) (wanted x) (x + 1) v
   pub count : p.count ≡ counts p.x p.y

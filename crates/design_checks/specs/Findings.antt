@@ -48,6 +48,7 @@ abbrev pub family_finding : List (List ℕ) → (ℕ → ℕ → ℕ) → ℕ �
 family_finding B add v k l =
     block_finding (is_block v k k) B (pair_finding (λ x d. differences add B d) (λ x d. l) (pairs_of v 0))
 
+-- of a block list against the definition of the design that is asked for; a group that is not listed has no family
 unfoldable pub finding : Query → List (List ℕ) → Finding
 finding (Td k n) B = design_finding B (n * k) k k (across n)
 finding (Df group v k l) B =

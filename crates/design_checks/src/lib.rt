@@ -12,3 +12,6 @@ mod scratch;
 pub use checks::{check_bibd, check_gdd, check_pbd, check_td};
 pub use finding::Finding;
 pub use scratch::Scratch;
+
+#[cfg(test)]
+mod tests;

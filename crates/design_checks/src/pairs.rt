@@ -1,7 +1,7 @@
 //! The first two points that stand together in another number of blocks than they are to.
-ghost use Rattle.std.specs.Prelude.{◌≡◌, ◌==◌, ◌+◌, ◌*◌, ◌-◌, ◌/◌, ◌^◌, ◌<◌, ◌≤◌, All, MatchOption, cond, length, nat_lt, slice_index, ℕ};
+ghost use Rattle.std.specs.Prelude.{◌≡◌, ◌==◌, ◌+◌, ◌*◌, ◌-◌, ◌/◌, ◌^◌, ◌<◌, ◌≤◌, ◌↔◌, All, IsTrue, MatchOption, cond, length, nat_lt, slice_index, ℕ};
 ghost use Rattle.design_base.specs.Blocks.{cover};
-ghost use Rattle.design_checks.specs.Counts.{Agree, IsFirstBad, IsRow, IsWanted, Parts, cell, want};
+ghost use Rattle.design_checks.specs.Counts.{Agree, IsFirstBad, IsRow, IsWanted, IsFirstDifference, cell, want};
 ghost use Rattle.design_checks.specs.declared.scratch.TheConstants.{LINES, WIDTH};
 
 use crate::counts::count_rows;
@@ -29,14 +29,37 @@ fn times_wanted(end: u16, times: u32, y: u16) -> u32
     if y < end { 0 } else { times }
 }
 
+// Whether the counts at the places from `from` on, below `to`, are all the one wanted. It looks at each of them in turn
+// and never stops, so that several are compared at a time.
+fn are_all(counts: &[u32], from: usize, to: usize, wanted: u32) -> bool
+    requires within { (from ≤ to) × (to ≤ length counts.now) }
+    requires few { to < 2 ^ 32 }
+    ensures { IsTrue result ↔ Agree (slice_index counts.now) (λ i. wanted) from to }
+{
+    let mut others = 0u32;
+    for i in from..to {
+        if counts[i] != wanted {
+            others += 1;
+        }
+    }
+    others == 0
+}
+
 // The first point y of v above x whose count with x is not the one wanted, in the line of the table that begins at `base`.
 fn first_bad_partner(counts: &[u32], base: usize, wanted: Wanted, v: u16, x: u16) -> Option<u16>
     requires wanted { IsWanted wanted }
     requires points { (x < v) × (v ≤ WIDTH) }
-    requires line { base + v ≤ length counts.now }
-    ensures { MatchOption result (Agree (λ y. slice_index counts.now (base + y)) (want wanted x) (x + 1) v) (λ y. Parts (λ y. slice_index counts.now (base + y)) (want wanted x) (x + 1) v y) }
+    requires line { (base + v ≤ length counts.now) × (length counts.now < 2 ^ 32) }
+    ensures { MatchOption result (Agree (λ y. slice_index counts.now (base + y)) (want wanted x) (x + 1) v) (λ y. IsFirstDifference (λ y. slice_index counts.now (base + y)) (want wanted x) (x + 1) v y) }
 {
     let (end, times) = partners(wanted, x);
+    let next = x as usize + 1;
+    let middle = next.max(end as usize).min(v as usize);
+    if are_all(counts, base + next, base + middle, 0)
+        && are_all(counts, base + middle, base + v as usize, times)
+    {
+        return None;
+    }
     for y in x + 1..v {
         if counts[base + y as usize] != times_wanted(end, times, y) {
             return Some(y);
@@ -49,7 +72,7 @@ fn first_bad_partner(counts: &[u32], base: usize, wanted: Wanted, v: u16, x: u16
 fn first_bad_count(counts: &[u32], wanted: Wanted, v: u16, low: u16, high: u16) -> Option<Pair>
     requires wanted { IsWanted wanted }
     requires points { (low ≤ high) × (high ≤ v) × (v ≤ WIDTH) }
-    requires lines { (high - low) * WIDTH ≤ length counts.now }
+    requires lines { ((high - low) * WIDTH ≤ length counts.now) × (length counts.now < 2 ^ 32) }
     ensures { MatchOption result ((x : ℕ) → low ≤ x → x < high → Agree (λ y. slice_index counts.now (cell low x y)) (want wanted x) (x + 1) v) (λ p. IsFirstBad (λ x y. slice_index counts.now (cell low x y)) (want wanted) v low high p) }
 {
     for x in low..high {
