@@ -1,0 +1,2 @@
+//! Orthogonal arrays and Latin squares of transversal designs, and back.
+#![tactic(auto)]
