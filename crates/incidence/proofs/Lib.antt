@@ -1,0 +1,5 @@
+pub mod Ordered
+pub mod Packing
+pub mod Pieces
+pub mod Sizes
+pub mod Walk

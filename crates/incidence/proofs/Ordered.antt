@@ -1,0 +1,33 @@
+-- Rows that are borrowed, sorted and packed again.
+use Rattle.std.proofs.Common.{IsPermutation, List, [], arith, get_or, length, map, slice_get, Some, sym, take, zero, suc, subst, ap, ℕ, ◌+◌, ◌++◌, ◌<◌, ◌∙◌, ◌∷◌, ◌≡◌, ◌≤◌}
+use Rattle.std.proofs.lemmas.List.{get_or-map, length-map, map-append}
+use Rattle.std.proofs.lemmas.List.Sorted.{IsPermutation-map, length_permutation, sum_by-IsPermutation}
+use Rattle.std.proofs.lemmas.List.Sums.{sum_by-cons}
+use Rattle.std.specs.Cmp.Lexicographic.{slice_cmp}
+use Rattle.std.specs.List.Sorted.{IsSorted}
+use Rattle.std.specs.Ordering.{nat_cmp}
+use Rattle.incidence.proofs.Sizes.{size_of-cons}
+use Rattle.incidence.specs.Packed.{size_of}
+use denote.Ref.{Bor}
+
+-- the rows that borrowed rows are
+abbrev pub pointed : List (Bor (List ℕ)) → List (List ℕ)
+pointed rows = map (λ row. row.now) rows
+
+-- what is sorted by what it points to, points to what is sorted
+pub pointed_sorted : (order : List (Bor (List ℕ))) → IsSorted (λ a b. slice_cmp nat_cmp a.now b.now) order → IsSorted (slice_cmp nat_cmp) (pointed order)
+pointed_sorted order up k d low high =
+    let point : Bor (List ℕ) → List ℕ = λ row. row.now in
+    let e : Bor (List ℕ) = record { ref_ptr = (0, 0); now = d } in
+    let within : k + 1 < length order = omega (arith, high, length-map order point) in
+    rw (get_or-map point order (k + 1) e d within, get_or-map point order k e d (omega arith)) (up k e low within)
+
+pub pointed_permuted : (rows : List (List ℕ)) (list order : List (Bor (List ℕ))) → pointed list ≡ rows → IsPermutation list order → IsPermutation rows (pointed order)
+pointed_permuted rows list order is moved = let P : List (List ℕ) → Type 0 = λ r. IsPermutation r (pointed order) in subst P is (IsPermutation-map (λ row. row.now) list order moved)
+
+-- a front of the rows and the next row are together not more than all
+pub size_more : (list : List (Bor (List ℕ))) (i : ℕ) (d : Bor (List ℕ)) → i < length list → size_of (pointed (take i list)) + length (get_or list i d).now + 1 ≤ size_of (pointed list)
+size_more [] i d within = absurd (omega arith)
+size_more (row ∷ rows) zero d within = omega (arith, size_of-cons row.now (pointed rows))
+size_more (row ∷ rows) (suc i) d within =
+    omega (arith, size_of-cons row.now (pointed rows), size_of-cons row.now (pointed (take i rows)), size_more rows i d (omega arith))
