@@ -1,21 +1,17 @@
 -- In an orthogonal array exactly one row begins with x and y.
-use Rattle.std.proofs.Common.{Bool, List, [], ap, arith, get_or, length, refl, sym, true, ℕ, ◌*◌, ◌<◌, ◌∙◌, ◌≡◌, ◌≤◌}
+use Rattle.std.proofs.Common.{List, [], ap, arith, get_or, length, refl, sym, true, ℕ, ◌*◌, ◌<◌, ◌∙◌, ◌≡◌, ◌≤◌}
 use Rattle.std.proofs.lemmas.List.Sums.{passes_at_first}
-use Rattle.std.specs.List.{position_or_len, sum_by}
+use Rattle.std.specs.List.{sum_by}
 use Rattle.counting.proofs.Counts.{both_equal, both_equal-from, grid_one, one-false, one-true, sum_below-mul, sum_below-same}
 use Rattle.counting.proofs.Lists.{sum_by-agree, sum_by-sum_below}
 use Rattle.counting.proofs.OnePlace.{one_place, some_place, sum_at}
 use Rattle.counting.specs.Sums.{one, sum_below}
 use Rattle.design_base.proofs.Rows.{agree-is}
 use Rattle.design_base.specs.Arrays.{IsOa, IsRow}
-use Rattle.arrays.specs.Arrays.{begins_with, row_at}
-
--- where the first row that begins with x and y stands
-pub place_at : List (List ℕ) → ℕ → ℕ → ℕ
-place_at R x y = position_or_len (begins_with x y) R
+use Rattle.arrays.specs.Arrays.{begins_with, place_at, row_at}
 
 pub row_at-is : (R : List (List ℕ)) (x y : ℕ) → row_at R x y ≡ get_or R (place_at R x y) []
-unfolding row_at place_at
+unfolding row_at
 row_at-is R x y = refl
 
 module _ (k n : ℕ) (R : List (List ℕ)) (oa : IsOa R k n) (two : 2 ≤ k) where

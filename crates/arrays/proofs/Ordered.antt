@@ -1,16 +1,16 @@
 -- The rows of an orthogonal array in lexicographic order are those that begin with 0 0, 0 1, .., 1 0, ..
-use Rattle.std.proofs.Common.{List, [], ap₂, arith, get_or, length, refl, rules, subst, suc, sym, true, ℕ, ◌*◌, ◌+◌, ◌<◌, ◌∙◌, ◌∷◌, ◌≡◌, ◌≤◌}
+use Rattle.std.proofs.Common.{List, [], ap₂, arith, get_or, length, suc, sym, true, ℕ, ◌*◌, ◌+◌, ◌<◌, ◌∙◌, ◌∷◌, ◌≡◌, ◌≤◌}
 use Rattle.std.proofs.lemmas.Bool.Decides.{nat_tests}
 use Rattle.std.specs.List.{sum_by}
 use Rattle.counting.proofs.Counts.{sum_below-same}
 use Rattle.counting.proofs.Lists.{sum_by-join_below, sum_by-single}
 use Rattle.counting.proofs.Ranges.{get_or-list_below, length-list_below}
-use Rattle.counting.proofs.Sorting.{each-sort_by, length-sort_by, ordered_from_neighbours, ordered-sort_by, same_ordered, sum_by-sort_by}
+use Rattle.counting.proofs.Sorting.{ordered_from_neighbours, ordered-sort_by, same_ordered, sum_by-sort_by}
 use Rattle.counting.specs.Sorting.{Ordered, sort_by}
 use Rattle.counting.specs.Sums.{join_below, list_below, sum_below}
 use Rattle.design_base.proofs.Places.{by_places}
 use Rattle.design_base.proofs.Sorted.{lex_le-order}
-use Rattle.design_base.specs.Arrays.{IsOa, IsRow, place}
+use Rattle.design_base.specs.Arrays.{IsOa, place}
 use Rattle.design_base.specs.Canonical.{lex_le}
 use Rattle.arrays.specs.Arrays.{row_at}
 use Rattle.arrays.proofs.Cells.{over_grid, row_at-begins, row_at_row}

@@ -12,8 +12,8 @@ use Rattle.counting.specs.Sorting.{sort_by}
 use Rattle.design_base.proofs.Canonical.{cover-canonical, design_from_loose}
 use Rattle.design_base.proofs.Places.{across-apart, place-below, place-rises}
 use Rattle.design_base.proofs.Rows.{agree-is, cover-blocks_of_rows, oa_from_pairs, td_from_oa}
-use Rattle.design_base.specs.Arrays.{IsOa, IsRow, agree, blocks_of_rows, place, row_block, rows_of_blocks}
-use Rattle.design_base.specs.Blocks.{IsTd, across, cover}
+use Rattle.design_base.specs.Arrays.{IsOa, IsRow, blocks_of_rows, place, row_block, rows_of_blocks}
+use Rattle.design_base.specs.Blocks.{IsTd, across}
 use Rattle.design_base.specs.Canonical.{canonical, lex_le}
 
 module _ (k n : ℕ) (R : List (List ℕ)) (rows : All (IsRow k n) R) where
@@ -31,7 +31,7 @@ module _ (k n : ℕ) (R : List (List ℕ)) (rows : All (IsRow k n) R) where
       s : IsRow k n r
       s = rows m [] l
 
-  -- the rows of the blocks of rows are the rows; that the blocks of the rows of blocks are the blocks stands below
+  -- the rows of the blocks of rows are the rows; `blocks_of_rows_of_blocks` is the other way round
   pub rows_of_blocks_of_rows : rows_of_blocks n (blocks_of_rows k n R) ≡ R
   unfolding blocks_of_rows rows_of_blocks
   rows_of_blocks_of_rows = ext_get_or [] _ _ (length-map _ _ ∙ length-map _ _) (λ m h.
