@@ -36,6 +36,8 @@ row_of_cell m n L x y = x ∷ y ∷ list_below m (λ s. cell L n s x y)
 unfoldable pub rows_of_squares : ℕ → ℕ → List (List ℕ) → List (List ℕ)
 rows_of_squares m n L = join_below n (λ x. list_below n (row_of_cell m n L x))
 
+-- ---- what stands in the builders' own contracts
+
 -- the cell of a block through place x of group 0 and place y of group 1, as the number x * n + y
 abbrev pub cell_of_block : ℕ → List ℕ → ℕ
 cell_of_block n block = place n (slice_index block 0 % n) (slice_index block 1 % n)

@@ -25,7 +25,7 @@ fn block_of_row(alloc: Global, n: u16, row: &[u16]) -> Result<Vec<u16>, Memory>
     requires below { All (λ a. a < n) row.now }
     ensures { IfOk result (λ block. block.items ≡ row_block (length row.now) n (λ j. slice_index row.now j)) }
 {
-    let mut block = Vec::new(alloc);
+    let mut block = Vec::with_capacity(alloc, row.len())?;
     for (j, a) in row.iter().enumerate() {
         block.push(j as u16 * n + *a)?;
     }
@@ -47,10 +47,12 @@ fn blocks_of(alloc: Global, k: u16, n: u16, rows: &Rows) -> Result<Rows, Memory>
     blocks.canonical()
 }
 
-/// The blocks that the rows of `k` symbols below `n` stand for, in canonical form: the symbol in column j is the place of a
-/// point in group j. They are a transversal design exactly where the rows are an orthogonal array. `td k n` is in bounds;
-/// nothing is asked of the rows. The answer is `BadLine` with the first row that has not `k` symbols below `n`, where there
-/// is one.
+/// The blocks that rows of `k` symbols below `n` stand for, in canonical form: the symbol in column j is the place of the
+/// block's point in group j. They are a transversal design exactly where the rows are an orthogonal array (Colbourn and
+/// Dinitz, Handbook of Combinatorial Designs, III.3).
+///
+/// `k` is from 2 to `TD_K_MAX` and `n` from 1 to `TD_N_MAX`; nothing is asked of the rows. Where a row has not `k` symbols,
+/// each below `n`, the answer is `BadLine` with the first such row. It is `Memory` only for want of memory.
 pub fn td_of_rows(alloc: Global, k: u16, n: u16, rows: &Rows) -> Result<Rows, ArrayEnd>
     requires { in_bounds (Td k n) ≡ true }
     ensures shape { IsOk result → bad_row_of k n rows.now ≡ None }
@@ -73,7 +75,9 @@ fn cell_row(alloc: Global, m: u16, n: u16, lines: &Rows, x: u16, y: u16) -> Resu
     requires shape { All (IsRow n n) lines.now }
     ensures { IfOk result (λ row. row.items ≡ row_of_cell m n lines.now x y) }
 {
-    let mut row = vec![in alloc; x, y]?;
+    let mut row = Vec::with_capacity(alloc, usize::from(m) + 2)?;
+    row.push(x)?;
+    row.push(y)?;
     for s in 0..m {
         row.push(lines.row(usize::from(s) * usize::from(n) + usize::from(x))[usize::from(y)])?;
     }
@@ -119,11 +123,15 @@ fn rows_of_squares(alloc: Global, m: u16, n: u16, lines: &Rows) -> Result<Rows, 
     Ok(rows)
 }
 
-/// The blocks that k - 2 squares of order `n` stand for, in canonical form: the squares stand one below the other, `n`
-/// lines of `n` symbols below `n` each, and the symbol of square s in line x and column y is the place in group s + 2 of the
-/// block through place x of group 0 and place y of group 1. The blocks are a transversal design exactly where the squares
-/// are mutually orthogonal Latin squares. `td k n` is in bounds; nothing is asked of the lines. The answer is `BadLine` with
-/// the first line that has not `n` symbols below `n`, is surplus or is missing, where there is one.
+/// The blocks that k - 2 squares of order `n` stand for, in canonical form. The squares stand one below the other, `n` lines of
+/// `n` symbols below `n` each, and for each line x and column y there is a block: through place x of group 0, place y of
+/// group 1 and, for each square s, the place in group s + 2 that its symbol there says. The blocks are a transversal design
+/// exactly where the squares are mutually orthogonal Latin squares (Colbourn and Dinitz, Handbook of Combinatorial Designs,
+/// III.3).
+///
+/// `k` is from 2 to `TD_K_MAX` and `n` from 1 to `TD_N_MAX`; nothing is asked of the lines. Where one has not `n` symbols, each
+/// below `n`, is surplus or is missing, the answer is `BadLine` with the first such line. It is `Memory` only for want of
+/// memory.
 pub fn td_of_squares(alloc: Global, k: u16, n: u16, lines: &Rows) -> Result<Rows, ArrayEnd>
     requires { in_bounds (Td k n) ≡ true }
     ensures shape { IsOk result → bad_line_of (k - 2) n lines.now ≡ None }

@@ -49,8 +49,11 @@ fn block_places(alloc: Global, n: u16, td: &Rows) -> Result<Vec<usize>, Memory>
     Ok(places)
 }
 
-/// The rows of a transversal design with `k` groups of `n` points, in lexicographic order: the number in column j is the
-/// place in group j. `td k n` is in bounds.
+/// The rows of a transversal design with `k` groups of `n` points, in lexicographic order: the number in column j of a row is
+/// the place in group j of its block's point. They are an orthogonal array (Colbourn and Dinitz, Handbook of Combinatorial
+/// Designs, III.3).
+///
+/// `k` is from 2 to `TD_K_MAX` and `n` from 1 to `TD_N_MAX`. The answer is `Memory` only for want of memory.
 pub fn rows_of_td(alloc: Global, k: u16, n: u16, td: &Rows) -> Result<Rows, Memory>
     requires bounds { in_bounds (Td k n) ≡ true }
     requires td { IsTd td.now k n }
@@ -75,7 +78,7 @@ fn square_line(alloc: Global, n: u16, rows: &Rows, x: u16, j: u16) -> Result<Vec
     requires column { All (λ row. j < length row) rows.now }
     ensures { IfOk result (λ line. line.items ≡ line_of_column n rows.now j x) }
 {
-    let mut line = Vec::new(alloc);
+    let mut line = Vec::with_capacity(alloc, usize::from(n))?;
     for y in 0..n {
         line.push(rows.row(usize::from(x) * usize::from(n) + usize::from(y))[usize::from(j)])?;
     }
@@ -99,8 +102,10 @@ fn push_square(alloc: Global, n: u16, rows: &Rows, j: u16, lines: &mut Rows) -> 
 }
 
 /// The k - 2 mutually orthogonal Latin squares of a transversal design with `k` groups of `n` points, one below the other,
-/// `n` lines of `n` symbols each: column 0 of a row is the line of a cell, column 1 its column, and column s + 2 its symbol
-/// in square s. `td k n` is in bounds.
+/// `n` lines of `n` symbols each: in line x and column y of square s, from 0 on, stands the number in column s + 2 of the row
+/// that begins with x and y (Colbourn and Dinitz, Handbook of Combinatorial Designs, III.3).
+///
+/// `k` is from 2 to `TD_K_MAX` and `n` from 1 to `TD_N_MAX`. The answer is `Memory` only for want of memory.
 pub fn squares_of_td(alloc: Global, k: u16, n: u16, td: &Rows) -> Result<Rows, Memory>
     requires bounds { in_bounds (Td k n) ≡ true }
     requires td { IsTd td.now k n }
