@@ -1,5 +1,5 @@
 -- Small values of the definitions, computed.
-use Rattle.std.proofs.Common.{◌≡◌, ℕ, List, [], ◌∷◌, true, false, refl}
+use Rattle.std.proofs.Common.{◌≡◌, ℕ, ◌+◌, List, [], ◌∷◌, true, false, refl}
 use Rattle.counting.specs.Sorting.{insert_by, sort_by}
 use Rattle.counting.specs.Search.{first_in, each_passes, is_among}
 use Rattle.counting.specs.Sums.{join_below}
@@ -9,6 +9,7 @@ use Rattle.design_base.specs.Arrays.{place, row_block, blocks_of_rows, rows_of_b
 use Rattle.design_base.specs.Squares.{cell}
 use Rattle.design_base.specs.Fields.{shapes, shape_of, field_sum, field_product, powers_from, gen}
 use Rattle.design_base.specs.Limits.{in_bounds}
+use Rattle.design_base.specs.Cells.{cells, cell_of}
 use Rattle.design_base.specs.Meets.{group_add}
 use Rattle.design_base.specs.declared.query.Group.TheVariants.{Cyclic, Field}
 use Rattle.design_base.specs.declared.query.Query.TheVariants.{Td, Df, Bibd, Gdd, Pbd}
@@ -120,3 +121,19 @@ many_points = refl
 no_small_blocks : in_bounds (Pbd 10 1) ≡ false
 unfolding in_bounds
 no_small_blocks = refl
+
+-- the numbers of questions: the first, one in the middle, the last
+first_cell : cell_of (Td 2 1) ≡ 0
+unfolding cell_of
+first_cell = refl
+
+cell_of_nine : cell_of (Bibd 9 3 1) ≡ 203048
+unfolding cell_of
+cell_of_nine = refl
+
+last_cell : cell_of (Pbd 128 16) + 1 ≡ cells
+unfolding cell_of
+last_cell = refl
+
+all_cells : cells ≡ 426435
+all_cells = refl

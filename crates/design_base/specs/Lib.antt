@@ -10,3 +10,4 @@ pub mod Limits
 pub mod Rules
 pub mod Steps
 pub mod Meets
+pub mod Cells

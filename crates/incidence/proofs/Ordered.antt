@@ -1,8 +1,7 @@
 -- Rows that are borrowed, sorted and packed again.
-use Rattle.std.proofs.Common.{IsPermutation, List, [], arith, get_or, length, map, slice_get, Some, sym, take, zero, suc, subst, ap, ℕ, ◌+◌, ◌++◌, ◌<◌, ◌∙◌, ◌∷◌, ◌≡◌, ◌≤◌}
-use Rattle.std.proofs.lemmas.List.{get_or-map, length-map, map-append}
-use Rattle.std.proofs.lemmas.List.Sorted.{IsPermutation-map, length_permutation, sum_by-IsPermutation}
-use Rattle.std.proofs.lemmas.List.Sums.{sum_by-cons}
+use Rattle.std.proofs.Common.{IsPermutation, List, [], arith, get_or, length, map, take, zero, suc, subst, ℕ, ◌+◌, ◌<◌, ◌∷◌, ◌≡◌, ◌≤◌}
+use Rattle.std.proofs.lemmas.List.{get_or-map, length-map}
+use Rattle.std.proofs.lemmas.List.Sorted.{IsPermutation-map}
 use Rattle.std.specs.Cmp.Lexicographic.{slice_cmp}
 use Rattle.std.specs.List.Sorted.{IsSorted}
 use Rattle.std.specs.Ordering.{nat_cmp}
@@ -22,8 +21,11 @@ pointed_sorted order up k d low high =
     let within : k + 1 < length order = omega (arith, high, length-map order point) in
     rw (get_or-map point order (k + 1) e d within, get_or-map point order k e d (omega arith)) (up k e low within)
 
+-- what is moved among borrowed rows is moved among the rows
 pub pointed_permuted : (rows : List (List ℕ)) (list order : List (Bor (List ℕ))) → pointed list ≡ rows → IsPermutation list order → IsPermutation rows (pointed order)
-pointed_permuted rows list order is moved = let P : List (List ℕ) → Type 0 = λ r. IsPermutation r (pointed order) in subst P is (IsPermutation-map (λ row. row.now) list order moved)
+pointed_permuted rows list order is moved =
+    let P : List (List ℕ) → Type 0 = λ r. IsPermutation r (pointed order) in
+    subst P is (IsPermutation-map (λ row. row.now) list order moved)
 
 -- a front of the rows and the next row are together not more than all
 pub size_more : (list : List (Bor (List ℕ))) (i : ℕ) (d : Bor (List ℕ)) → i < length list → size_of (pointed (take i list)) + length (get_or list i d).now + 1 ≤ size_of (pointed list)

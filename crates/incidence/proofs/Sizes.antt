@@ -1,5 +1,5 @@
--- The size of a list of rows: so many rows and numbers are packed.
-use Rattle.std.proofs.Common.{IsPermutation, List, Some, [], add-one, ap, arith, length, length-append, slice_get, suc, take, zero, ℕ, ◌*◌, ◌+◌, ◌++◌, ◌<◌, ◌∷◌, ◌≡◌, ◌≤◌}
+-- The size of a list of rows, which is how many rows and numbers are packed.
+use Rattle.std.proofs.Common.{IsPermutation, List, Some, [], ap, arith, length, length-append, slice_get, suc, take, zero, ℕ, ◌*◌, ◌+◌, ◌++◌, ◌∷◌, ◌≡◌, ◌≤◌}
 use Rattle.std.proofs.lemmas.List.Sorted.{length_permutation, sum_by-IsPermutation}
 use Rattle.std.proofs.lemmas.List.Sums.{sum_by-append, sum_by-cons}
 use Rattle.std.specs.List.{AllByRecursion}

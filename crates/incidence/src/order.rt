@@ -28,7 +28,7 @@ pub fn in_lexicographic_order(alloc: Global, rows: &Rows) -> Result<Vec<&[u16]>,
 
 // The rows of the list, packed. Memory for so many numbers is taken at once.
 #[tactic(auto, using(crate::proofs::Ordered::size_more))]
-pub fn packed(alloc: Global, list: &[&[u16]], numbers: usize) -> Result<Rows, Memory>
+pub fn pack(alloc: Global, list: &[&[u16]], numbers: usize) -> Result<Rows, Memory>
     requires { size_of (map (λ row. row.now) list.now) < PACKED_MAX }
     ensures { IfOk result (λ rows. rows ≡ map (λ row. row.now) list.now) }
 {

@@ -1,4 +1,4 @@
-// A list of lists of numbers, kept as the numbers one after another and the place where each list ends.
+//! A list of lists of numbers, kept as the numbers one after another and the place where each list ends.
 ghost use Rattle.std.specs.Prelude.{◌≡◌, ◌+◌, ◌<◌, ◌≤◌, ◌↔◌, [], ◌∷◌, ◌++◌, ◌&&◌, IfOk, IsTrue, OnErr, OnOk, Some, length, map, nat_le, slice_get, slice_index};
 ghost use Rattle.counting.specs.Sorting.{sort_by};
 ghost use Rattle.design_base.specs.Blocks.{cover as cover_of, holds};
@@ -6,7 +6,7 @@ ghost use Rattle.design_base.specs.Canonical.{canonical as canonical_form};
 ghost use Rattle.incidence.specs.Packed.{AreEnds, rows_from, size_of};
 
 use crate::iter::Iter;
-use crate::order::{in_lexicographic_order, packed};
+use crate::order::{in_lexicographic_order, pack};
 use design_base::{Memory, PACKED_MAX};
 use std::alloc::Global;
 use std::marker::Model;
@@ -86,7 +86,7 @@ impl Rows {
         }
     }
 
-    /// Takes memory for this many further rows and numbers, so that they are pushed without taking any. After `Memory` the list is as before.
+    /// Takes memory at once for so many further rows and the numbers in them. The list stays.
     pub fn reserve(&mut self, rows: usize, numbers: usize) -> Result<(), Memory>
         ensures { self.new ≡ self.old }
     {
@@ -149,7 +149,7 @@ impl Rows {
     {
         self.sort_each();
         let order = in_lexicographic_order(self.alloc, &self)?;
-        packed(self.alloc, &order, self.numbers.len())
+        pack(self.alloc, &order, self.numbers.len())
     }
 
     /// The rows in their order.

@@ -1,5 +1,5 @@
 use crate::Rows;
-use crate::order::packed;
+use crate::order::pack;
 use std::test::Fail;
 
 // Whether the rows are those of the list.
@@ -27,7 +27,7 @@ fn rows_are_pushed(rt: HostRuntime) -> Result<(), Fail> {
 #[test]
 fn rows_have_a_canonical_form(rt: HostRuntime) -> Result<(), Fail> {
     let list: [&[u16]; 6] = [&[5, 1, 3], &[2, 0], &[], &[10, 9], &[3, 5, 1], &[2, 0, 7]];
-    let rows = packed(rt.alloc(), &list, 13)?;
+    let rows = pack(rt.alloc(), &list, 13)?;
     let rows = rows.canonical()?;
     assert!(rt;
         are(
@@ -41,7 +41,7 @@ fn rows_have_a_canonical_form(rt: HostRuntime) -> Result<(), Fail> {
 #[test]
 fn pairs_are_covered(rt: HostRuntime) -> Result<(), Fail> {
     let list: [&[u16]; 4] = [&[0, 1, 3], &[3, 2, 0], &[], &[3]];
-    let rows = packed(rt.alloc(), &list, 7)?;
+    let rows = pack(rt.alloc(), &list, 7)?;
     for (x, y, times) in [
         (0, 3, 2),
         (3, 0, 2),

@@ -1,0 +1,7 @@
+pub mod Counting
+pub mod Increasing
+pub mod Meeting
+pub mod RowByRow
+pub mod Search
+pub mod Valid
+pub mod Wanted

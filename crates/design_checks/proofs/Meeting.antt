@@ -1,0 +1,58 @@
+-- A finding is Valid exactly where the block list meets the question.
+use Rattle.std.proofs.Common.{Bool, List, false, refl, true, ℕ, ◌*◌, ◌+◌, ◌≡◌, ◌⊎◌}
+use Rattle.std.specs.Bool.{Decides}
+use Rattle.std.specs.Prelude.{◌↔◌}
+use Rattle.design_base.specs.Blocks.{IsBibd, IsGdd, IsPbd, IsTd, across}
+use Rattle.design_base.specs.Fields.{FieldAt, has_field}
+use Rattle.design_base.specs.Meets.{Meets, group_add}
+use Rattle.design_base.specs.declared.query.Group.TheVariants.{Cyclic, Field}
+use Rattle.design_base.specs.declared.query.Query.{Query}
+use Rattle.design_base.specs.declared.query.Query.TheVariants.{Bibd, Df, Gdd, Pbd, Td}
+use Rattle.design_checks.proofs.Valid.{design_is_valid, exactly, family_is_valid, or_one_more, valid_is_design, valid_is_family}
+use Rattle.design_checks.specs.Findings.{family_finding, finding}
+use Rattle.design_checks.specs.declared.finding.Finding.{Finding}
+use Rattle.design_checks.specs.declared.finding.Finding.TheVariants.{BadPair, Valid}
+
+pub bibd_valid : (B : List (List ℕ)) (v k l : ℕ) → (finding (Bibd v k l) B ≡ Valid) ↔ IsBibd B v k l
+unfolding finding
+bibd_valid B v k l = (valid_is_design v k k (λ n. n ≡ k) (exactly k) B (λ x y. l), design_is_valid v k k (λ n. n ≡ k) (exactly k) B (λ x y. l))
+
+pub gdd_valid : (B : List (List ℕ)) (k g u : ℕ) → (finding (Gdd k g u) B ≡ Valid) ↔ IsGdd B k g u
+unfolding finding
+gdd_valid B k g u = (valid_is_design (g * u) k k (λ n. n ≡ k) (exactly k) B (across g), design_is_valid (g * u) k k (λ n. n ≡ k) (exactly k) B (across g))
+
+pub td_valid : (B : List (List ℕ)) (k n : ℕ) → (finding (Td k n) B ≡ Valid) ↔ IsTd B k n
+unfolding finding
+td_valid B k n = (valid_is_design (n * k) k k (λ n. n ≡ k) (exactly k) B (across n), design_is_valid (n * k) k k (λ n. n ≡ k) (exactly k) B (across n))
+
+pub pbd_valid : (B : List (List ℕ)) (v s : ℕ) → (finding (Pbd v s) B ≡ Valid) ↔ IsPbd B v s
+unfolding finding
+pbd_valid B v s = (valid_is_design v s (s + 1) (λ n. (n ≡ s) ⊎ (n ≡ s + 1)) (or_one_more s) B (λ x y. 1), design_is_valid v s (s + 1) (λ n. (n ≡ s) ⊎ (n ≡ s + 1)) (or_one_more s) B (λ x y. 1))
+
+-- where each listed order, and no other, has a field
+module _ (fields : (q : ℕ) → Decides (has_field q) (FieldAt q)) where
+  pub valid_meets : (q : Query) (B : List (List ℕ)) → finding q B ≡ Valid → Meets q B
+  unfolding finding
+  valid_meets (Td k n) B e = (td_valid B k n).0 e
+  valid_meets (Df Cyclic v k l) B e = (tt, valid_is_family B (group_add Cyclic v) v k l e)
+  valid_meets (Df Field v k l) B e = by_order (has_field v) refl e
+    where
+      by_order : (t : Bool) → has_field v ≡ t → ◌≡◌ {A = Finding} (elim t [ true ↦ family_finding B (group_add Field v) v k l | false ↦ BadPair 0 1 0 ]) Valid → Meets (Df Field v k l) B
+      by_order true f e = ((fields v).0 f, valid_is_family B (group_add Field v) v k l e)
+      by_order false f e = cc
+  valid_meets (Bibd v k l) B e = (bibd_valid B v k l).0 e
+  valid_meets (Gdd k g u) B e = (gdd_valid B k g u).0 e
+  valid_meets (Pbd v s) B e = (pbd_valid B v s).0 e
+
+  pub meets_valid : (q : Query) (B : List (List ℕ)) → Meets q B → finding q B ≡ Valid
+  unfolding finding
+  meets_valid (Td k n) B h = (td_valid B k n).1 h
+  meets_valid (Df Cyclic v k l) B h = family_is_valid B (group_add Cyclic v) v k l h.1
+  meets_valid (Df Field v k l) B h = by_order (has_field v) ((fields v).1 h.0)
+    where
+      by_order : (t : Bool) → t ≡ true → ◌≡◌ {A = Finding} (elim t [ true ↦ family_finding B (group_add Field v) v k l | false ↦ BadPair 0 1 0 ]) Valid
+      by_order true f = family_is_valid B (group_add Field v) v k l h.1
+      by_order false f = cc
+  meets_valid (Bibd v k l) B h = (bibd_valid B v k l).1 h
+  meets_valid (Gdd k g u) B h = (gdd_valid B k g u).1 h
+  meets_valid (Pbd v s) B h = (pbd_valid B v s).1 h

@@ -1,0 +1,60 @@
+//! A table of counts: in how many blocks each of some points and each greater point stand together.
+ghost use Rattle.std.specs.Prelude.{◌≡◌, ◌==◌, ◌+◌, ◌*◌, ◌-◌, ◌^◌, ◌<◌, ◌≤◌, ◌&&◌, All, count_by, length, slice_index, ℕ};
+ghost use Rattle.std.specs.List.Sorted.{IsStrictlyIncreasing};
+ghost use Rattle.counting.specs.Sums.{one};
+ghost use Rattle.design_base.specs.Blocks.{holds};
+ghost use Rattle.design_checks.specs.Counts.{Counts, IsRow, Pairwise, cell};
+ghost use Rattle.design_checks.specs.declared.scratch.TheConstants.{WIDTH};
+
+use crate::scratch::WIDTH;
+use incidence::Rows;
+
+// Adds one at each of the points of the line that begins at `base`.
+#[tactic(auto, using(crate::proofs::Counting::count_more))]
+fn count_points(points: &[u16], base: usize, counts: &mut [u32])
+    requires below { All (λ y. base + y < length counts.old) points.now }
+    requires small { All (λ y. slice_index counts.old (base + y) + length points.now < 2 ^ 32) points.now }
+    ensures { (p : ℕ) → slice_index counts.new p ≡ slice_index counts.old p + count_by (λ y. base + y == p) points.now }
+{
+    for y in points {
+        counts[base + *y as usize] += 1;
+    }
+}
+
+// The place of the first number of the row that is not below `low`.
+fn first_from(row: &[u16], low: u16) -> usize
+    requires { IsStrictlyIncreasing row.now }
+    ensures within { result ≤ length row.now }
+    ensures before { (i : ℕ) → i < result → slice_index row.now i < low }
+    ensures after { (i : ℕ) → result ≤ i → i < length row.now → low ≤ slice_index row.now i }
+{
+    row.partition_point(|x| *x < low)
+}
+
+// Adds one for each two points x < y of the row where x is a point from `low` on, below `high`.
+fn count_row(row: &[u16], low: u16, high: u16, counts: &mut [u32])
+    requires row { IsRow row.now }
+    requires lines { (low ≤ high) × ((high - low) * WIDTH ≤ length counts.old) }
+    requires small { Pairwise low high (λ x y. slice_index counts.old (cell low x y) + length row.now < 2 ^ 32) }
+    ensures { Pairwise low high (λ x y. slice_index counts.new (cell low x y) ≡ slice_index counts.old (cell low x y) + one (holds x row.now && holds y row.now)) }
+{
+    for i in first_from(row, low)..row.len() {
+        let x = row[i];
+        if x >= high {
+            return;
+        }
+        count_points(&row[i + 1..], (x - low) as usize * WIDTH, counts);
+    }
+}
+
+/// Counts, for each point x from `low` on and below `high`, and each greater point y, the rows in which both stand.
+pub(crate) fn count_rows(rows: &Rows, low: u16, high: u16, counts: &mut [u32])
+    requires rows { All IsRow rows.now }
+    requires lines { (low ≤ high) × ((high - low) * WIDTH ≤ length counts.old) }
+    ensures { Counts counts.new low high rows.now }
+{
+    counts.fill(0);
+    for i in 0..rows.len() {
+        count_row(rows.row(i), low, high, counts);
+    }
+}

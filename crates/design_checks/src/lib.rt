@@ -1,0 +1,14 @@
+//! Block lists checked against the definitions of designs: the first bad block, or the first bad pair of points, or that
+//! the list is such a design.
+#![tactic(auto)]
+
+mod blocks;
+mod checks;
+mod counts;
+mod finding;
+mod pairs;
+mod scratch;
+
+pub use checks::{check_bibd, check_gdd, check_pbd, check_td};
+pub use finding::Finding;
+pub use scratch::Scratch;

@@ -1,0 +1,43 @@
+ghost use Rattle.std.specs.Prelude.{ℕ, List};
+ghost use Rattle.std.specs.Io.{ReadsAtMost, WritesAtMost};
+ghost use Rattle.std.specs.Io.KnownBytes.{ReadConsumes, WriteAppends};
+ghost use Rattle.std.specs.declared.option.Option.{Option};
+ghost use Rattle.design_io.specs.Faults.{HasCause};
+ghost use Rattle.design_io.specs.Pieces.{TakesSome};
+
+/// A read or a write failed. It is answered only where the count of faults rose.
+#[derive(Clone, Copy, Debug, PartialEq, Eq)]
+pub struct Failed;
+
+/// What gives bytes.
+pub trait Source {
+    /// The bytes that are left, where it tells them.
+    ghost left: { Self → Option (List ℕ) };
+
+    /// The count of faults, which never falls.
+    ghost faults: { Self → ℕ };
+
+    /// Reads into the front of the buffer, and says how many bytes. `Ok(0)` for a buffer that is
+    /// not empty is the end of input. A failed call takes no byte.
+    fn read(&mut self, buf: &mut [u8]) -> Result<usize, Failed>
+        ensures bound { ReadsAtMost result buf.new }
+        ensures bytes { ReadConsumes (left self.old) (left self.new) result buf.new }
+        ensures cause { HasCause (faults self.old) (faults self.new) result };
+}
+
+/// What takes bytes.
+pub trait Sink {
+    /// The bytes that it holds, where it tells them.
+    ghost held: { Self → Option (List ℕ) };
+
+    /// The count of faults, which never falls.
+    ghost faults: { Self → ℕ };
+
+    /// Appends a front of the piece, and says how long it is: not 0 where the piece has bytes.
+    /// A failed call appends no byte.
+    fn write(&mut self, piece: &[u8]) -> Result<usize, Failed>
+        ensures bound { WritesAtMost result piece.now }
+        ensures some { TakesSome result piece.now }
+        ensures bytes { WriteAppends (held self.old) (held self.new) result piece.now }
+        ensures cause { HasCause (faults self.old) (faults self.new) result };
+}

@@ -1,0 +1,119 @@
+use super::*;
+use design_base::Memory;
+use std::alloc::{AllocError, Global};
+use std::io::{self, ErrorKind, Read, Write};
+use std::test::Fail;
+
+// What reading the bytes gives, over a source whose call number `failing` fails.
+fn reading(
+    alloc: Global,
+    bytes: &[u8],
+    failing: u32,
+    limit: u8,
+) -> Result<Result<Vec<u8>, ReadEnd>, AllocError> {
+    let mut source = MemorySource::new(bytes.to_vec(alloc)?, vec![in alloc; failing]?);
+    Ok(read_all(alloc, &mut source, u32::from(limit)))
+}
+
+#[test]
+fn reads_within_the_limit(rt: HostRuntime) -> Result<(), Fail> {
+    let alloc = rt.alloc();
+    for (bytes, failing, limit, want) in [
+        ("", 0, 0, Ok("")),
+        ("ab\ncd", 0, 5, Ok("ab\ncd")),
+        ("ab\ncd", 0, 3, Err(ReadEnd::TooLong { line: 2 })),
+        ("ab\ncd", 0, 2, Err(ReadEnd::TooLong { line: 1 })),
+        ("ab\ncd", 1, 5, Err(ReadEnd::Failed)),
+        ("ab\ncd", 2, 5, Err(ReadEnd::Failed)),
+        ("ab\ncd", 3, 5, Ok("ab\ncd")),
+    ] {
+        let answer = reading(alloc, bytes.as_bytes(), failing, limit)?;
+        let is_right = match (&answer, want) {
+            (Ok(all), Ok(text)) => all.as_slice() == text.as_bytes(),
+            (Err(end), Err(wanted)) => *end == wanted,
+            _ => false,
+        };
+        assert!(rt; is_right, "{bytes} up to {limit}");
+    }
+    Ok(())
+}
+
+#[test]
+fn failed_writes_keep_no_byte(rt: HostRuntime) -> Result<(), Fail> {
+    let alloc = rt.alloc();
+    for (failing, room, want) in [(0, 6, "abcdef"), (2, 6, "abef"), (0, 3, "abe")] {
+        let Ok(mut sink) = MemorySink::new(alloc, room, vec![in alloc; failing]?) else {
+            return Err(AllocError.into());
+        };
+        for piece in ["ab", "cd", "e", "f"] {
+            let _ = write_whole(&mut sink, piece.as_bytes());
+        }
+        assert_eq!(rt;
+            sink.bytes(),
+            want.as_bytes(),
+            "call {failing} fails, room {room}"
+        );
+    }
+    Ok(())
+}
+
+// It interrupts so many calls. Then it is at the end of input, and takes whole pieces.
+#[derive(Drop)]
+struct Interrupting {
+    calls: u32,
+}
+
+impl Interrupting {
+    fn pass(&mut self) -> io::Result<()> {
+        if self.calls == 0 {
+            return Ok(());
+        }
+        self.calls -= 1;
+        Err(ErrorKind::Interrupted.into())
+    }
+}
+
+impl Read for Interrupting {
+    fn read(&mut self, _buf: &mut [u8]) -> io::Result<usize> {
+        self.pass()?;
+        Ok(0)
+    }
+}
+
+impl Write for Interrupting {
+    fn write(&mut self, buf: &[u8]) -> io::Result<usize> {
+        self.pass()?;
+        Ok(buf.len())
+    }
+
+    fn flush(&mut self) -> io::Result<()> {
+        Ok(())
+    }
+}
+
+#[test]
+fn interrupted_calls_are_made_again(rt: HostRuntime) {
+    for (calls, want) in [(0, Ok(())), (TRIES - 1, Ok(())), (TRIES, Err(Failed))] {
+        let mut source = StdSource::new(Interrupting { calls });
+        let end = source.read(&mut [0; 2]);
+        assert_eq!(rt; end, want.map(|()| 0), "{calls} reads");
+        let mut sink = StdSink::new(Interrupting { calls });
+        assert_eq!(rt; write_whole(&mut sink, b"ab"), want, "{calls} writes");
+    }
+}
+
+#[test]
+fn adapters_tell_what_std_tells(rt: HostRuntime) -> Result<(), Fail> {
+    let alloc = rt.alloc();
+    let mut source = StdSource::new(b"ab\ncd".as_slice());
+    assert_eq!(rt;
+        read_all(alloc, &mut source, 5)?.as_slice(),
+        b"ab\ncd".as_slice()
+    );
+    let mut written = Vec::new(alloc);
+    let mut sink = StdSink::new(&mut written);
+    assert!(rt; write_whole(&mut sink, b"ab").is_ok());
+    assert!(rt; write_whole(&mut sink, b"cd").is_ok());
+    assert_eq!(rt; written.as_slice(), b"abcd".as_slice());
+    Ok(())
+}

@@ -1,0 +1,41 @@
+-- Words that are pushed one after another stand with one space between each two.
+use Rattle.std.proofs.Common.{◌≡◌, ℕ, ◌+◌, ◌<◌, ◌≤◌, Bool, true, false, ◌&&◌, List, [], ◌∷◌, ◌++◌, length, take, get_or, map, append_assoc, append-nil, ◌^◌, arith, refl, ap, sym, ◌∙◌}
+use Rattle.std.specs.Fmt.{decimal}
+use Rattle.std.proofs.lemmas.Fmt.{decimal_nonempty}
+use Rattle.std.proofs.lemmas.List.{take_more, map-append}
+use Rattle.std.proofs.lemmas.List.Sums.{fold_push}
+use Rattle.design_lines.specs.Printed.{row_text, spaced, with_word, with_words}
+
+-- one more number
+pub numbers_more : (line : List ℕ) (xs : List ℕ) (i : ℕ) → i < length xs → with_words line (map decimal (take (i + 1) xs)) ≡ with_word (with_words line (map decimal (take i xs))) (decimal (get_or xs i 0))
+numbers_more line xs i h =
+    ap (λ l. with_words line (map decimal l)) (take_more xs i 0 h) ∙ ap (with_words line) (map-append decimal (take i xs) (get_or xs i 0 ∷ [])) ∙ fold_push with_word line (map decimal (take i xs)) (decimal (get_or xs i 0))
+
+-- the words, each with a space before it
+abbrev behind_spaces : List (List ℕ) → List ℕ
+behind_spaces [] = []
+behind_spaces (word ∷ words) = 32 ∷ (word ++ behind_spaces words)
+
+with_words_behind : (c : ℕ) (line : List ℕ) (words : List (List ℕ)) → with_words (c ∷ line) words ≡ (c ∷ line) ++ behind_spaces words
+with_words_behind c line [] = sym (append-nil (c ∷ line))
+with_words_behind c line (word ∷ words) = with_words_behind c (line ++ 32 ∷ word) words ∙ append_assoc (c ∷ line) (32 ∷ word) (behind_spaces words)
+
+spaced_behind : (word : List ℕ) (words : List (List ℕ)) → spaced (word ∷ words) ≡ word ++ behind_spaces words
+spaced_behind word [] = sym (append-nil word)
+spaced_behind word (next ∷ words) = ap (λ l. word ++ 32 ∷ l) (spaced_behind next words)
+
+-- words that are pushed on an empty line, of which the first is not empty, are joined
+pub words_joined : (word : List ℕ) (words : List (List ℕ)) → 0 < length word → with_words [] (word ∷ words) ≡ spaced (word ∷ words)
+words_joined [] words h = absurd (omega (arith, h))
+words_joined (c ∷ word) words h = with_words_behind c word words ∙ sym (spaced_behind (c ∷ word) words)
+
+-- joined words that are pushed as one come to the same
+pub with_word-spaced : (line word : List ℕ) (words : List (List ℕ)) → 0 < length line → with_word line (spaced (word ∷ words)) ≡ with_words line (word ∷ words)
+with_word-spaced [] word words h = absurd (omega (arith, h))
+with_word-spaced (c ∷ line) word words h =
+    ap (λ l. (c ∷ line) ++ 32 ∷ l) (spaced_behind word words) ∙ sym (with_words_behind c line (word ∷ words))
+
+-- numbers that are pushed on an empty line
+pub row_joined : (row : List ℕ) → get_or row 0 0 < 2 ^ 64 → with_words [] (map decimal row) ≡ row_text row
+row_joined [] h = refl
+row_joined (n ∷ row) h = words_joined (decimal n) (map decimal row) (decimal_nonempty n h)

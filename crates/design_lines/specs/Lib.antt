@@ -1,0 +1,6 @@
+pub mod Words
+pub mod Source
+pub mod Reading
+pub mod Grammar
+pub mod Printed
+pub mod BlockLines

@@ -1,0 +1,74 @@
+//! Questions, steps and rows of numbers as they are printed.
+ghost use Rattle.std.specs.Prelude.{◌≡◌, ◌*◌, ◌<◌, length, map};
+ghost use Rattle.std.specs.Fmt.{decimal};
+ghost use Rattle.design_lines.specs.Printed.{group_word, line_of, question_words, spaced, step_words};
+
+use crate::line::{LINE_ROOM, Line, Text};
+use crate::names::{parameter_count, rule_name};
+use design_base::{Group, Query, Step};
+
+// The word of a group.
+fn group_name(group: Group) -> &'static str
+    ensures { result.now ≡ group_word group }
+{
+    match group {
+        Group::Cyclic => "z",
+        Group::Field => "f",
+    }
+}
+
+/// The question in its normal words, with one space between each two.
+#[tactic(auto, unfolding(crate::specs::Printed::question_words))]
+pub fn question_text(q: &Query) -> Text
+    ensures { result ≡ spaced (question_words q.now) }
+{
+    let mut text = Text::new();
+    match *q {
+        Query::Td { k, n } => {
+            text.push_word(b"td");
+            text.push_numbers(&[k, n]);
+        }
+        Query::Df { group, v, k, l } => {
+            text.push_word(b"df");
+            text.push_word(group_name(group).as_bytes());
+            text.push_numbers(&[v, k, l]);
+        }
+        Query::Bibd { v, k, l } => {
+            text.push_word(b"bibd");
+            text.push_numbers(&[v, k, l]);
+        }
+        Query::Gdd { k, g, u } => {
+            text.push_word(b"gdd");
+            text.push_numbers(&[k, g, u]);
+        }
+        Query::Pbd { v, s } => {
+            text.push_word(b"pbd");
+            text.push_numbers(&[v, s]);
+        }
+    }
+    text
+}
+
+/// The rule's name and its parameters, with one space between each two words.
+#[tactic(auto, unfolding(crate::specs::Printed::step_words))]
+pub fn step_text(step: &Step) -> Text
+    ensures { result ≡ spaced (step_words step.now) }
+{
+    let mut text = Text::new();
+    text.push_word(rule_name(step.rule).as_bytes());
+    let parameters = [step.a, step.b, step.c, step.d];
+    text.push_numbers(&parameters[..parameter_count(step.rule)]);
+    text
+}
+
+/// A row of numbers as a line, with one space between each two.
+#[tactic(auto, using(crate::proofs::Joined::row_joined))]
+pub fn row_line(row: &[u16]) -> Line
+    requires { 6 * length row.now < LINE_ROOM }
+    ensures { result ≡ line_of (map decimal row.now) }
+{
+    let mut line = Line::new();
+    line.push_numbers(row);
+    line.end();
+    line
+}
