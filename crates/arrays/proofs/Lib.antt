@@ -1,0 +1,12 @@
+pub mod Joined
+pub mod Cells
+pub mod Ordered
+pub mod Passages
+pub mod Squares
+pub mod Shapes
+pub mod Bounds
+pub mod Table
+pub mod TdRows
+pub mod RowBlocks
+pub mod Steps
+pub mod Samples
