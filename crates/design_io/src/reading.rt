@@ -13,10 +13,10 @@ pub enum ReadEnd {
     #[error("read fault")]
     Failed,
     /// There are more bytes than the limit, and the first one past it stands on this line, from 1.
-    #[error("line {line}: too long")]
+    #[error("too long at line {line}")]
     TooLong { line: u32 },
     /// There was no memory.
-    #[error("out of memory")]
+    #[error("no memory")]
     Memory,
 }
 

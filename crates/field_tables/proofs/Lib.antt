@@ -1,0 +1,16 @@
+pub mod Linear
+pub mod Multiply
+pub mod Modular
+pub mod Numbers
+pub mod Digits
+pub mod AnyGroup
+pub mod AnyField
+pub mod Search
+pub mod Listed
+pub mod Steps
+pub mod Rules
+pub mod Values
+pub mod Fill
+pub mod Upward
+pub mod Marks
+pub mod GroupSums
