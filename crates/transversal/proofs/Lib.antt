@@ -1,0 +1,11 @@
+pub mod Square
+pub mod CyclicArray
+pub mod FieldArray
+pub mod ProductArray
+pub mod Turns
+pub mod Raise
+pub mod ParkerArray
+pub mod Designs
+pub mod OneArray
+pub mod Steps
+pub mod Samples
