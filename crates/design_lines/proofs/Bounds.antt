@@ -1,6 +1,6 @@
 -- A question with a number above 65,535 is out of bounds.
-use Rattle.std.proofs.Common.{◌≡◌, ℕ, ◌+◌, ◌*◌, ◌<◌, ◌≤◌, Bool, true, false, ◌&&◌, arith, mul-le-mul_left, mul-le-mul_right, refl, ap, sym, ◌∙◌, cond}
-use Rattle.std.specs.Prelude.{Option, Some, None, option_and_then, if◌then◌else◌}
+use Rattle.std.proofs.Common.{◌≡◌, ℕ, ◌*◌, ◌≤◌, Bool, true, false, ◌&&◌, arith, mul-le-mul_left, mul-le-mul_right, refl, ap, sym}
+use Rattle.std.specs.Prelude.{Some, None, option_and_then, if◌then◌else◌}
 use Rattle.std.proofs.lemmas.Bool.Decides.{nat_tests}
 use Rattle.counting.specs.Search.{◌<=◌}
 use Rattle.design_base.specs.declared.limits.TheConstants.{GDD_K_MAX, POINTS_MAX}
@@ -9,7 +9,6 @@ use Rattle.design_base.specs.declared.query.Query.{Query}
 use Rattle.design_base.specs.declared.query.Query.TheVariants.{Td, Df, Bibd, Gdd, Pbd}
 use Rattle.design_base.specs.Limits.{in_bounds, is_listed, within}
 use Rattle.design_lines.specs.declared.command.Shape.{Shape}
-use Rattle.design_lines.specs.declared.command.Asked.{Asked}
 use Rattle.design_lines.specs.Grammar.{asked, is_narrow, narrowed}
 
 td_out : (k n : ℕ) → is_narrow (Td k n) ≡ false → in_bounds (Td k n) ≡ false

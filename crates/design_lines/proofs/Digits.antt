@@ -1,5 +1,5 @@
 -- Digits that are read from the left, and numbers that are read back from their digits.
-use Rattle.std.proofs.Common.{◌≡◌, ℕ, ◌+◌, ◌-◌, ◌*◌, ◌<◌, ◌≤◌, ◌^◌, Bool, true, false, ◌&&◌, ◌||◌, ◌==◌, inl, inr, List, [], ◌∷◌, length, take, get_or, length-take, arith, rules, refl, ap, sym, ◌∙◌}
+use Rattle.std.proofs.Common.{◌≡◌, ℕ, ◌+◌, ◌-◌, ◌*◌, ◌<◌, ◌≤◌, ◌^◌, true, ◌||◌, ◌==◌, inl, inr, List, [], ◌∷◌, length, take, get_or, length-take, arith, rules, refl}
 use Rattle.std.specs.Prelude.{Some, not, slice_index}
 use Rattle.design_base.specs.declared.limits.TheConstants.{DIGITS_MAX}
 use Rattle.design_lines.specs.Words.{is_short, number_of}
@@ -11,7 +11,7 @@ use Rattle.std.proofs.lemmas.Bool.{le-leb, cases_lt}
 use Rattle.std.proofs.lemmas.Fmt.{length-decimal-le, digits_decimal, digits_value-decimal, decimal_nonempty, first_decimal, decimal_digit}
 use Rattle.std.proofs.lemmas.Bool.Decides.{nat_tests}
 use Rattle.std.proofs.lemmas.Int.Digits.{digits_value_more}
-use Rattle.std.proofs.lemmas.List.Folds.{list_all_more, list_all_at}
+use Rattle.std.proofs.lemmas.List.Folds.{list_all_more}
 use Rattle.std.proofs.lemmas.Str.Parse.{IsDigitsTest, IsNumeralModel, numerals_by_value, digits_value_short}
 
 abbrev IsDigits : List ℕ → Type 0

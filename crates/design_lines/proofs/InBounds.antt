@@ -1,6 +1,6 @@
 -- The question of a command is in bounds.
-use Rattle.std.proofs.Common.{◌≡◌, ℕ, ◌+◌, ◌&&◌, Bool, true, false, List, [], ◌∷◌, drop, Option, Some, None, Result, Ok, Err, refl, cond}
-use Rattle.std.specs.Prelude.{IfOk, option_map, if◌then◌else◌}
+use Rattle.std.proofs.Common.{◌≡◌, ℕ, ◌+◌, ◌&&◌, Bool, true, false, List, [], ◌∷◌, drop, Option, Some, None, Result, Ok, Err, refl}
+use Rattle.std.specs.Prelude.{IfOk, IfSome, option_map, if◌then◌else◌}
 use Rattle.std.specs.List.{AllByRecursion}
 use Rattle.std.proofs.lemmas.Bool.{cond_both}
 use Rattle.design_base.specs.declared.query.Query.{Query}
@@ -16,8 +16,9 @@ use Rattle.design_lines.specs.declared.command.Shape.TheVariants.{Squares}
 use Rattle.design_lines.specs.declared.command.Asked.{Asked}
 use Rattle.design_lines.specs.declared.command.Command.{Command}
 use Rattle.design_lines.specs.declared.command.Command.TheVariants.{On, Table}
-use Rattle.design_lines.specs.Reading.{Reading, Reader, Entry, gives, behind, ◌then◌, number, pair, triple, is_next, one_of_or, one_of, refused, no_fixed_word, at_end, value_read, whole}
-use Rattle.design_lines.specs.Grammar.{groups, questions, asked, squares, other_questions, question, table, td_table, bibd_table, gdd_table, workers, tables, on, batch_lines, other_lines, within_limits, parse, IsInBounds}
+use Rattle.design_lines.specs.Words.{words_of}
+use Rattle.design_lines.specs.Reading.{Reading, Reader, Entry, behind, ◌then◌, number, pair, is_next, one_of_or, one_of, refused, at_end, value_read}
+use Rattle.design_lines.specs.Grammar.{questions, asked, squares, other_questions, question, table, table_in_bounds, workers, as_some, batch_command, parse_in_batch, tables, on, batch_lines, other_lines, within_limits, parse, IsInBounds}
 
 -- all that is read has P
 abbrev Gives : {A : Type 0} → (A → Type 0) → Reader A → Type 0
@@ -94,25 +95,27 @@ on_gives verb = then_gives IsAsked IsBounded question _ question_gives (λ a ask
     of None asks = tt
     of (Some a) asks = asks
 
-table_bounded : (fits : Bool) (ask : TableAsk) (w : ℕ) → IsBounded (table fits ask w)
-table_bounded fits ask w = of (fits && within 1 WORKERS_MAX w)
+table_bounded : (ask : TableAsk) (w : ℕ) → IsBounded (table ask w)
+unfolding table
+table_bounded ask w = of (table_in_bounds ask) refl (within 1 WORKERS_MAX w) refl
   where
-    of : (b : Bool) → IsBounded (if b then Some (Table ask w) else None)
-    of true = tt
-    of false = tt
+    of : (a : Bool) → table_in_bounds ask ≡ a → (b : Bool) → within 1 WORKERS_MAX w ≡ b → IsBounded (if a && b then Some (Table ask w) else None)
+    of true in_range true crew = (in_range, crew)
+    of true in_range false crew = tt
+    of false in_range b crew = tt
 
 -- what is read behind any reading has P
 then_always : {A B : Type 0} (P : B → Type 0) (read : Reader A) (next : A → Reader B) → ((a : A) → Gives P (next a)) → Gives P (read then next)
 then_always P read next h = then_gives (λ a. Unit {0}) P read next (anything read) (λ a _. h a)
 
 tables_give : EachGives IsBounded tables
-unfolding tables td_table bibd_table gdd_table
+unfolding tables
 tables_give = (
-  then_always IsBounded pair _ (λ k. then_always IsBounded pair _ (λ n. then_always IsBounded workers _ (λ w at words. table_bounded _ _ w))),
+  then_always IsBounded pair _ (λ k. then_always IsBounded pair _ (λ n. then_always IsBounded workers _ (λ w at words. table_bounded _ w))),
   (
-    then_always IsBounded pair _ (λ k. then_always IsBounded pair _ (λ v. then_always IsBounded number _ (λ l. then_always IsBounded workers _ (λ w at words. table_bounded _ _ w)))),
+    then_always IsBounded pair _ (λ k. then_always IsBounded pair _ (λ v. then_always IsBounded number _ (λ l. then_always IsBounded workers _ (λ w at words. table_bounded _ w)))),
     (
-      then_always IsBounded number _ (λ k. then_always IsBounded pair _ (λ g. then_always IsBounded pair _ (λ u. then_always IsBounded workers _ (λ w at words. table_bounded _ _ w)))),
+      then_always IsBounded number _ (λ k. then_always IsBounded pair _ (λ g. then_always IsBounded pair _ (λ u. then_always IsBounded workers _ (λ w at words. table_bounded _ w)))),
       tt,
     ),
   ),
@@ -121,6 +124,9 @@ tables_give = (
 batch_lines_give : EachGives IsBounded batch_lines
 unfolding batch_lines
 batch_lines_give = (on_gives _, (on_gives _, (on_gives _, (on_gives _, tt))))
+
+batch_line_gives : Gives IsBounded (one_of batch_lines)
+batch_line_gives = one_of_gives IsBounded batch_lines batch_lines_give
 
 other_lines_give : EachGives IsBounded other_lines
 unfolding other_lines
@@ -144,5 +150,18 @@ pub parse_in_bounds : (words : List (List ℕ)) → IfOk (parse words) IsInBound
 unfolding parse
 parse_in_bounds words = of_reading _
     (then_gives IsBounded IsBounded (one_of_or other_lines (one_of batch_lines)) at_end
-    (one_of_or_gives IsBounded other_lines (one_of batch_lines) other_lines_give (one_of_gives IsBounded batch_lines batch_lines_give))
+    (one_of_or_gives IsBounded other_lines (one_of batch_lines) other_lines_give batch_line_gives)
     at_end_gives 1 words)
+
+of_some : (r : Result Command Reason) → IfOk r IsInBounds → IfOk (as_some r) (λ command. IfSome command IsInBounds)
+of_some (Err reason) bounded = tt
+of_some (Ok command) bounded = bounded
+
+of_words : (words : List (List ℕ)) → IfOk (batch_command words) (λ command. IfSome command IsInBounds)
+of_words [] = tt
+of_words (word ∷ words) = of_some _ (of_reading _ (then_gives IsBounded IsBounded (one_of batch_lines) at_end batch_line_gives at_end_gives 1 (word ∷ words)))
+
+-- what a line of a batch asks is in bounds
+pub parse_in_batch_in_bounds : (line : List ℕ) → IfOk (parse_in_batch line) (λ command. IfSome command IsInBounds)
+unfolding parse_in_batch
+parse_in_batch_in_bounds line = of_words (words_of line)

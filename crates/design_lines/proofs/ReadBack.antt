@@ -1,5 +1,5 @@
 -- A question is read back from its words.
-use Rattle.std.proofs.Common.{◌≡◌, ℕ, ◌+◌, ◌<◌, ◌^◌, List, [], ◌∷◌, ◌++◌, ap, arith}
+use Rattle.std.proofs.Common.{◌≡◌, ℕ, ◌+◌, ◌<◌, ◌^◌, List, ◌++◌, ap, arith}
 use Rattle.std.specs.Prelude.{Result, Ok}
 use Rattle.design_base.specs.declared.limits.TheConstants.{DIGITS_MAX}
 use Rattle.design_base.specs.declared.query.Group.TheVariants.{Cyclic, Field}

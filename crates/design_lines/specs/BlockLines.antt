@@ -2,6 +2,7 @@
 use Rattle.std.specs.Prelude.{◌≡◌, ℕ, Bool, true, false, ◌&&◌, if◌then◌else◌, List, [], ◌∷◌, ◌++◌, length, Option, Some, None, option_and_then, option_map, IsSomeAnd}
 use Rattle.std.specs.Str.Lines.{strip_carriage_return}
 use Rattle.counting.specs.Search.{◌<=◌}
+use Rattle.design_lines.specs.declared.block_lines.TheConstants.{BLOCK_DIGITS_MAX}
 use Rattle.design_lines.specs.Words.{value_of, words_of}
 
 -- a number of one to five digits, leading zeros allowed, that is at most 65,535
@@ -9,7 +10,7 @@ abbrev pub small : Option ℕ → Option ℕ
 small number = option_and_then (λ n. if n <= 65535 then Some n else None) number
 
 unfoldable pub block_number : List ℕ → Option ℕ
-block_number word = if 1 <= length word && length word <= 5 then small (value_of word) else None
+block_number word = if 1 <= length word && length word <= BLOCK_DIGITS_MAX then small (value_of word) else None
 
 -- the numbers of the words, where each is one
 unfoldable pub numbers_of : List (List ℕ) → Option (List ℕ)

@@ -75,21 +75,18 @@ unfoldable pub question : Reader (Option Asked)
 question = one_of_or other_questions (one_of questions then λ q. gives (asked Blocks q))
 
 -- both ends of a range lie within the limits, the first not above the second
-abbrev pub is_range : ℕ → ℕ → ℕ × ℕ → Bool
-is_range low high ends = low <= ends.0 && ends.0 <= ends.1 && ends.1 <= high
+abbrev pub is_range : ℕ → ℕ → ℕ → ℕ → Bool
+is_range low high first last = low <= first && first <= last && last <= high
 
--- the table, where its ranges lie within the limits and there are 1 to 16 workers
-abbrev pub table : Bool → TableAsk → ℕ → Option Command
-table fits ask workers = if fits && within 1 WORKERS_MAX workers then Some (Table ask workers) else None
+-- the ranges of a table lie within the limits of their letters; at least two groups share the points
+abbrev pub table_in_bounds : TableAsk → Bool
+table_in_bounds (TdTable k1 k2 n1 n2) = is_range 2 TD_K_MAX k1 k2 && is_range 1 TD_N_MAX n1 n2
+table_in_bounds (BibdTable k1 k2 v1 v2 l) = is_range 2 POINTS_MAX k1 k2 && is_range 2 POINTS_MAX v1 v2 && within 1 COVER_MAX l
+table_in_bounds (GddTable k g1 g2 u1 u2) = within 2 GDD_K_MAX k && is_range 1 (POINTS_MAX / 2) g1 g2 && is_range 2 POINTS_MAX u1 u2
 
-unfoldable pub td_table : ℕ × ℕ → ℕ × ℕ → ℕ → Option Command
-td_table k n = table (is_range 2 TD_K_MAX k && is_range 1 TD_N_MAX n) (TdTable k.0 k.1 n.0 n.1)
-
-unfoldable pub bibd_table : ℕ × ℕ → ℕ × ℕ → ℕ → ℕ → Option Command
-bibd_table k v l = table (is_range 2 POINTS_MAX k && is_range 2 POINTS_MAX v && within 1 COVER_MAX l) (BibdTable k.0 k.1 v.0 v.1 l)
-
-unfoldable pub gdd_table : ℕ → ℕ × ℕ → ℕ × ℕ → ℕ → Option Command
-gdd_table k g u = table (within 2 GDD_K_MAX k && is_range 1 (POINTS_MAX / 2) g && is_range 2 POINTS_MAX u) (GddTable k g.0 g.1 u.0 u.1)
+-- the table, where its ranges and the number of workers lie within the limits
+unfoldable pub table : TableAsk → ℕ → Option Command
+table ask workers = if table_in_bounds ask && within 1 WORKERS_MAX workers then Some (Table ask workers) else None
 
 -- how many workers: ` workers w` at the end of the line, or one
 unfoldable pub workers : Reader ℕ
@@ -97,9 +94,9 @@ workers = one_of_or ((codes "workers" means number) ∷ []) (at_end 1)
 
 unfoldable pub tables : List (Entry (Option Command))
 tables =
-    (codes "td" means pair then λ k. pair then λ n. workers then λ w. gives (td_table k n w))
-    ∷ (codes "bibd" means pair then λ k. pair then λ v. number then λ l. workers then λ w. gives (bibd_table k v l w))
-    ∷ (codes "gdd" means number then λ k. pair then λ g. pair then λ u. workers then λ w. gives (gdd_table k g u w))
+    (codes "td" means pair then λ k. pair then λ n. workers then λ w. gives (table (TdTable k.0 k.1 n.0 n.1) w))
+    ∷ (codes "bibd" means pair then λ k. pair then λ v. number then λ l. workers then λ w. gives (table (BibdTable k.0 k.1 v.0 v.1 l) w))
+    ∷ (codes "gdd" means number then λ k. pair then λ g. pair then λ u. workers then λ w. gives (table (GddTable k g.0 g.1 u.0 u.1) w))
     ∷ []
 
 -- the verb on a question; nothing where the question is out of bounds
@@ -134,9 +131,10 @@ within_limits (Ok (Some a)) = Ok a
 unfoldable pub parse : List (List ℕ) → Result Command Reason
 parse words = within_limits (whole (one_of_or other_lines (one_of batch_lines)) words)
 
--- the question that is asked is in bounds
+-- what the command names is in bounds: its question, or its table and the number of its workers
 abbrev pub IsInBounds : Command → Type 0
 IsInBounds (On verb q shape) = in_bounds q ≡ true
+IsInBounds (Table ask workers) = (table_in_bounds ask ≡ true) × (within 1 WORKERS_MAX workers ≡ true)
 IsInBounds command = ⊤
 
 abbrev pub as_some : {A : Type 0} → Result A Reason → Result (Option A) Reason

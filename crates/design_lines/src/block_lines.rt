@@ -11,6 +11,9 @@ use design_base::{Memory, PACKED_MAX};
 use incidence::Rows;
 use std::alloc::{AllocFailed, Global};
 
+/// The most digits of a number in a block line.
+pub const BLOCK_DIGITS_MAX: usize = 5;
+
 /// Why a line was not added to the rows.
 #[derive(Clone, Copy, Debug, PartialEq, Eq)]
 pub enum BlockLineEnd {
@@ -51,7 +54,7 @@ fn without_return(line: &[u8]) -> &[u8]
 fn block_number(word: &[u8]) -> Option<u16>
     ensures { result ≡ number_in_block word.now }
 {
-    if word.is_empty() || word.len() > 5 {
+    if word.is_empty() || word.len() > BLOCK_DIGITS_MAX {
         return None;
     }
     u16::try_from(value_of(word)?).ok()
@@ -66,7 +69,7 @@ fn numbers_of_line(alloc: Global, line: &[u8]) -> Result<Vec<u16>, BlockLineEnd>
 {
     let mut words = Words::of_line(without_return(line));
     let mut row = Vec::new(alloc);
-    while let Some(word) = words.next() {
+    while let Some(word) = words.next_word() {
         let number = block_number(word).ok_or(BlockLineEnd::Bad)?;
         row.push(number)?;
     }

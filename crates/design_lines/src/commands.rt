@@ -1,9 +1,9 @@
 //! Reading a command line, or a line of a batch.
-ghost use Rattle.std.specs.Prelude.{◌≡◌, Result, IfOk, ◌/◌};
+ghost use Rattle.std.specs.Prelude.{◌≡◌, IfOk, IfSome};
 ghost use Rattle.design_base.specs.Limits.{within};
 ghost use Rattle.design_lines.specs.Reading.{Reads, one_of, one_of_or};
 ghost use Rattle.design_lines.specs.Words.{texts};
-ghost use Rattle.design_lines.specs.Grammar.{IsInBounds, batch_lines, bibd_table, gdd_table, is_range, on, other_lines, parse, parse_in_batch, tables, td_table, workers};
+ghost use Rattle.design_lines.specs.Grammar.{IsInBounds, batch_lines, is_range, on, other_lines, parse, parse_in_batch, table, tables, workers};
 
 use crate::command::{Command, Reason, Verb};
 use crate::words::Words;
@@ -18,7 +18,7 @@ fn is_within(low: u16, high: u16, number: u64) -> bool
 
 // Whether both ends of a range lie within the limits, the first not above the second.
 fn is_range_within(low: u16, high: u16, ends: (u64, u64)) -> bool
-    ensures { result ≡ is_range low high ends }
+    ensures { result ≡ is_range low high ends.0 ends.1 }
 {
     u64::from(low) <= ends.0 && ends.0 <= ends.1 && ends.1 <= u64::from(high)
 }
@@ -32,9 +32,9 @@ fn is_crew(workers: u64) -> bool
 
 // The tables, each where its ranges and the number of workers keep the limits.
 
-#[tactic(auto, unfolding(crate::specs::Grammar::td_table))]
+#[tactic(auto, unfolding(crate::specs::Grammar::table))]
 fn td(k: (u64, u64), n: (u64, u64), workers: u64) -> Option<Command>
-    ensures { result ≡ td_table k n workers }
+    ensures { result ≡ table (TableAsk.Td k.0 k.1 n.0 n.1) workers }
 {
     if !is_range_within(2, TD_K_MAX, k) || !is_range_within(1, TD_N_MAX, n) || !is_crew(workers) {
         return None;
@@ -51,9 +51,9 @@ fn td(k: (u64, u64), n: (u64, u64), workers: u64) -> Option<Command>
     })
 }
 
-#[tactic(auto, unfolding(crate::specs::Grammar::bibd_table))]
+#[tactic(auto, unfolding(crate::specs::Grammar::table))]
 fn bibd(k: (u64, u64), v: (u64, u64), l: u64, workers: u64) -> Option<Command>
-    ensures { result ≡ bibd_table k v l workers }
+    ensures { result ≡ table (TableAsk.Bibd k.0 k.1 v.0 v.1 l) workers }
 {
     if !is_range_within(2, POINTS_MAX, k)
         || !is_range_within(2, POINTS_MAX, v)
@@ -75,9 +75,9 @@ fn bibd(k: (u64, u64), v: (u64, u64), l: u64, workers: u64) -> Option<Command>
     })
 }
 
-#[tactic(auto, unfolding(crate::specs::Grammar::gdd_table))]
+#[tactic(auto, unfolding(crate::specs::Grammar::table))]
 fn gdd(k: u64, g: (u64, u64), u: (u64, u64), workers: u64) -> Option<Command>
-    ensures { result ≡ gdd_table k g u workers }
+    ensures { result ≡ table (TableAsk.Gdd k g.0 g.1 u.0 u.1) workers }
 {
     if !is_within(2, GDD_K_MAX, k)
         || !is_range_within(1, POINTS_MAX / 2, g)
@@ -201,9 +201,9 @@ impl<'a> Words<'a> {
     }
 }
 
-// The command of the words, or the fault of the line.
+// The command of the words of a command line.
 #[tactic(auto, unfolding(crate::specs::Grammar::parse, crate::specs::Reading::at_end))]
-fn command_of(words: &[String]) -> Result<Command, Reason>
+fn command_of_words(words: &[String]) -> Result<Command, Reason>
     ensures { result ≡ parse (texts words.now) }
 {
     let mut words = Words::of_texts(words);
@@ -219,13 +219,12 @@ pub fn read_words(words: &[String]) -> Result<Command, Reason>
     ensures command { result ≡ parse (texts words.now) }
     ensures bounds { IfOk result IsInBounds }
 {
-    command_of(words)
+    command_of_words(words)
 }
 
-/// The command that a line of a batch is, of which only the verbs `ask`, `build`, `explain` and `closure` are known. Its
-/// words are its longest runs of bytes other than space and tab. None where it has no word.
+// The command of the words of a line of a batch, where there are some.
 #[tactic(auto, unfolding(crate::specs::Grammar::parse_in_batch, crate::specs::Reading::at_end))]
-pub fn read_line(line: &[u8]) -> Result<Option<Command>, Reason>
+fn command_of_line(line: &[u8]) -> Result<Option<Command>, Reason>
     ensures { result ≡ parse_in_batch line.now }
 {
     let mut words = Words::of_line(line);
@@ -236,4 +235,14 @@ pub fn read_line(line: &[u8]) -> Result<Option<Command>, Reason>
     words.finish()?;
     let command = command.ok_or(Reason::OutOfBounds)?;
     Ok(Some(command))
+}
+
+/// The command that a line of a batch is, of which only the verbs `ask`, `build`, `explain` and `closure` are known. Its
+/// words are its longest runs of bytes other than space and tab. None where it has no word.
+#[tactic(auto, using(crate::proofs::InBounds::parse_in_batch_in_bounds))]
+pub fn read_line(line: &[u8]) -> Result<Option<Command>, Reason>
+    ensures command { result ≡ parse_in_batch line.now }
+    ensures bounds { IfOk result (λ command. IfSome command IsInBounds) }
+{
+    command_of_line(line)
 }

@@ -119,7 +119,7 @@ impl<'a> Words<'a> {
     }
 
     /// Takes the next word, where one is left.
-    pub fn next(&mut self) -> Option<&'a [u8]>
+    pub fn next_word(&mut self) -> Option<&'a [u8]>
         ensures end { IfNone result (self.old.words ≡ []) }
         ensures same { IfNone result (self.new ≡ self.old) }
         ensures word { IfSome result (λ word. self.old.words ≡ word.now ∷ self.new.words) }
@@ -177,7 +177,7 @@ impl<'a> Words<'a> {
         ensures small { IfOk result (λ n. n < 10 ^ DIGITS_MAX) }
     {
         let at = self.at;
-        let word = self.next().ok_or(Reason::Missing { at })?;
+        let word = self.next_word().ok_or(Reason::Missing { at })?;
         number_of(word).ok_or(Reason::Spelling { at })
     }
 
