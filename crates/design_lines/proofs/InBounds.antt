@@ -7,7 +7,7 @@ use Rattle.design_base.specs.declared.query.Query.{Query}
 use Rattle.design_base.specs.declared.query.Query.TheVariants.{Td}
 use Rattle.design_base.specs.declared.query.TableAsk.{TableAsk}
 use Rattle.design_base.specs.Limits.{in_bounds, within}
-use Rattle.design_base.specs.declared.limits.TheConstants.{WORKERS_MAX}
+use Rattle.design_base.specs.declared.limits.TheConstants.{WORKERS_MAX, WORKLOAD_MAX}
 use Rattle.counting.specs.Search.{◌<=◌}
 use Rattle.design_lines.specs.declared.command.Reason.{Reason}
 use Rattle.design_lines.specs.declared.command.Verb.{Verb}
@@ -15,10 +15,10 @@ use Rattle.design_lines.specs.declared.command.Shape.{Shape}
 use Rattle.design_lines.specs.declared.command.Shape.TheVariants.{Squares}
 use Rattle.design_lines.specs.declared.command.Asked.{Asked}
 use Rattle.design_lines.specs.declared.command.Command.{Command}
-use Rattle.design_lines.specs.declared.command.Command.TheVariants.{On, Table}
+use Rattle.design_lines.specs.declared.command.Command.TheVariants.{On, Table, Workload}
 use Rattle.design_lines.specs.Words.{words_of}
 use Rattle.design_lines.specs.Reading.{Reading, Reader, Entry, behind, ◌then◌, number, pair, is_next, one_of_or, one_of, refused, at_end, value_read}
-use Rattle.design_lines.specs.Grammar.{questions, asked, squares, other_questions, question, table, table_in_bounds, workers, as_some, batch_command, parse_in_batch, tables, on, batch_lines, other_lines, within_limits, parse, IsInBounds}
+use Rattle.design_lines.specs.Grammar.{questions, asked, squares, other_questions, question, table, table_in_bounds, workers, as_some, batch_command, parse_in_batch, tables, on, batch_lines, input_line, input_lines, other_lines, line, within_limits, workload, parse, IsInBounds}
 
 -- all that is read has P
 abbrev Gives : {A : Type 0} → (A → Type 0) → Reader A → Type 0
@@ -128,9 +128,25 @@ batch_lines_give = (on_gives _, (on_gives _, (on_gives _, (on_gives _, tt))))
 batch_line_gives : Gives IsBounded (one_of batch_lines)
 batch_line_gives = one_of_gives IsBounded batch_lines batch_lines_give
 
+workload_bounded : (n : ℕ) → IsBounded (workload n)
+unfolding workload
+workload_bounded n = of (within 1 WORKLOAD_MAX n) refl
+  where
+    of : (b : Bool) → within 1 WORKLOAD_MAX n ≡ b → IsBounded (if b then Some (Workload n) else None)
+    of true in_range = in_range
+    of false in_range = tt
+
 other_lines_give : EachGives IsBounded other_lines
 unfolding other_lines
-other_lines_give = (on_gives _, ((λ at words. tt), ((λ at words. tt), (one_of_gives IsBounded tables tables_give, tt))))
+other_lines_give = (on_gives _, (one_of_gives IsBounded tables tables_give, (then_always IsBounded number _ (λ n at words. workload_bounded n), tt)))
+
+input_lines_give : EachGives IsBounded input_lines
+unfolding input_lines
+input_lines_give = ((λ at words. tt), ((λ at words. tt), tt))
+
+input_line_gives : Gives IsBounded input_line
+unfolding input_line
+input_line_gives = one_of_or_gives IsBounded input_lines (one_of batch_lines) input_lines_give batch_line_gives
 
 at_end_gives : (value : Option Command) → IsBounded value → Gives IsBounded (at_end value)
 unfolding at_end
@@ -149,8 +165,8 @@ of_reading (Ok r) bounded = of_value r.value bounded
 pub parse_in_bounds : (words : List (List ℕ)) → IfOk (parse words) IsInBounds
 unfolding parse
 parse_in_bounds words = of_reading _
-    (then_gives IsBounded IsBounded (one_of_or other_lines (one_of batch_lines)) at_end
-    (one_of_or_gives IsBounded other_lines (one_of batch_lines) other_lines_give batch_line_gives)
+    (then_gives IsBounded IsBounded line at_end
+    (one_of_or_gives IsBounded other_lines input_line other_lines_give input_line_gives)
     at_end_gives 1 words)
 
 of_some : (r : Result Command Reason) → IfOk r IsInBounds → IfOk (as_some r) (λ command. IfSome command IsInBounds)

@@ -7,7 +7,7 @@ use Rattle.design_base.specs.declared.query.Query.{Query}
 use Rattle.design_base.specs.declared.query.Query.TheVariants.{Td, Df, Bibd, Gdd, Pbd}
 use Rattle.design_base.specs.declared.query.TableAsk.{TableAsk}
 use Rattle.design_base.specs.declared.query.TableAsk.TheVariants.{Td as TdTable, Bibd as BibdTable, Gdd as GddTable}
-use Rattle.design_base.specs.declared.limits.TheConstants.{TD_K_MAX, TD_N_MAX, POINTS_MAX, COVER_MAX, GDD_K_MAX, WORKERS_MAX}
+use Rattle.design_base.specs.declared.limits.TheConstants.{TD_K_MAX, TD_N_MAX, POINTS_MAX, COVER_MAX, GDD_K_MAX, WORKERS_MAX, WORKLOAD_MAX}
 use Rattle.design_base.specs.Limits.{in_bounds, within}
 use Rattle.design_lines.specs.declared.command.Reason.{Reason}
 use Rattle.design_lines.specs.declared.command.Reason.TheVariants.{OutOfBounds}
@@ -17,7 +17,7 @@ use Rattle.design_lines.specs.declared.command.Shape.{Shape}
 use Rattle.design_lines.specs.declared.command.Shape.TheVariants.{Blocks, Rows, Squares}
 use Rattle.design_lines.specs.declared.command.Asked.{Asked}
 use Rattle.design_lines.specs.declared.command.Command.{Command}
-use Rattle.design_lines.specs.declared.command.Command.TheVariants.{On, Replay, Batch, Table}
+use Rattle.design_lines.specs.declared.command.Command.TheVariants.{On, Replay, Batch, Table, Workload}
 use Rattle.design_lines.specs.Words.{words_of}
 use Rattle.design_lines.specs.Reading.{Reader, Entry, gives, ◌then◌, number, pair, triple, ◌means◌, one_of, one_of_or, at_end, whole}
 
@@ -112,14 +112,32 @@ batch_lines =
     ∷ (codes "closure" means on Closure)
     ∷ []
 
--- the lines that may not
+-- so many questions, where there are not too many
+unfoldable pub workload : ℕ → Option Command
+workload n = if within 1 WORKLOAD_MAX n then Some (Workload n) else None
+
+-- the lines that may not: those on the input
+unfoldable pub input_lines : List (Entry (Option Command))
+input_lines =
+    (codes "replay" means gives (Some Replay))
+    ∷ (codes "batch" means gives (Some Batch))
+    ∷ []
+
+-- a line on the input, or one that may stand in a batch
+unfoldable pub input_line : Reader (Option Command)
+input_line = one_of_or input_lines (one_of batch_lines)
+
+-- and the others
 unfoldable pub other_lines : List (Entry (Option Command))
 other_lines =
     (codes "check" means on Check)
-    ∷ (codes "replay" means gives (Some Replay))
-    ∷ (codes "batch" means gives (Some Batch))
     ∷ (codes "table" means one_of tables)
+    ∷ (codes "workload" means number then λ n. gives (workload n))
     ∷ []
+
+-- a line
+abbrev pub line : Reader (Option Command)
+line = one_of_or other_lines input_line
 
 -- the value, where the numbers keep the limits
 abbrev pub within_limits : {A : Type 0} → Result (Option A) Reason → Result A Reason
@@ -129,12 +147,13 @@ within_limits (Ok (Some a)) = Ok a
 
 -- the command of the words; or the reason of the first bad word, or that the numbers break the limits
 unfoldable pub parse : List (List ℕ) → Result Command Reason
-parse words = within_limits (whole (one_of_or other_lines (one_of batch_lines)) words)
+parse words = within_limits (whole line words)
 
--- what the command names is in bounds: its question, or its table and the number of its workers
+-- what the command names is in bounds: its question, its table and the number of its workers, or its number of draws
 abbrev pub IsInBounds : Command → Type 0
 IsInBounds (On verb q shape) = in_bounds q ≡ true
 IsInBounds (Table ask workers) = (table_in_bounds ask ≡ true) × (within 1 WORKERS_MAX workers ≡ true)
+IsInBounds (Workload n) = within 1 WORKLOAD_MAX n ≡ true
 IsInBounds command = ⊤
 
 abbrev pub as_some : {A : Type 0} → Result A Reason → Result (Option A) Reason

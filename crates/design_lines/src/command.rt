@@ -58,6 +58,10 @@ pub enum Command {
     Replay,
     /// The lines of the input are to be answered.
     Batch,
+    /// So many questions are to be answered and counted.
+    Workload {
+        n: u32,
+    },
     /// A table of questions, answered by 1 to 16 workers.
     Table {
         ask: TableAsk,

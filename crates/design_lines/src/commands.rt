@@ -1,13 +1,15 @@
 //! Reading a command line, or a line of a batch.
 ghost use Rattle.std.specs.Prelude.{◌≡◌, IfOk, IfSome};
 ghost use Rattle.design_base.specs.Limits.{within};
-ghost use Rattle.design_lines.specs.Reading.{Reads, one_of, one_of_or};
+ghost use Rattle.design_lines.specs.Reading.{Reads, one_of};
 ghost use Rattle.design_lines.specs.Words.{texts};
-ghost use Rattle.design_lines.specs.Grammar.{IsInBounds, batch_lines, is_range, on, other_lines, parse, parse_in_batch, table, tables, workers};
+ghost use Rattle.design_lines.specs.Grammar.{IsInBounds, batch_lines, input_line, is_range, line, on, other_lines, parse, parse_in_batch, table, tables, workers, workload};
 
 use crate::command::{Command, Reason, Verb};
 use crate::words::Words;
-use design_base::{COVER_MAX, GDD_K_MAX, POINTS_MAX, TD_K_MAX, TD_N_MAX, TableAsk, WORKERS_MAX};
+use design_base::{
+    COVER_MAX, GDD_K_MAX, POINTS_MAX, TD_K_MAX, TD_N_MAX, TableAsk, WORKERS_MAX, WORKLOAD_MAX,
+};
 
 // Whether a number lies in a range.
 fn is_within(low: u16, high: u16, number: u64) -> bool
@@ -99,6 +101,17 @@ fn gdd(k: u64, g: (u64, u64), u: (u64, u64), workers: u64) -> Option<Command>
     })
 }
 
+// A workload of so many draws, where there are not too many.
+#[tactic(auto, unfolding(crate::specs::Grammar::workload))]
+fn draws(n: u64) -> Option<Command>
+    ensures { result ≡ workload n }
+{
+    if n < 1 || n > u64::from(WORKLOAD_MAX) {
+        return None;
+    }
+    Some(Command::Workload { n: n as u32 })
+}
+
 impl<'a> Words<'a> {
     // How many workers, at the end of the line of a table.
     #[tactic(auto, unfolding(crate::specs::Grammar::workers, crate::specs::Reading::at_end, crate::specs::Reading::one_of_or))]
@@ -177,26 +190,39 @@ impl<'a> Words<'a> {
         Err(self.no_fixed_word())
     }
 
-    // A line.
-    #[tactic(auto, unfolding(crate::specs::Grammar::other_lines, crate::specs::Reading::one_of_or))]
-    fn line(&mut self) -> Result<Option<Command>, Reason>
-        ensures { Reads (one_of_or other_lines (one_of batch_lines)) self.old self.new result }
+    // A line on the input, or one that may stand in a batch.
+    #[tactic(auto, unfolding(crate::specs::Grammar::input_line, crate::specs::Grammar::input_lines, crate::specs::Reading::one_of_or))]
+    fn input_line(&mut self) -> Result<Option<Command>, Reason>
+        ensures { Reads input_line self.old self.new result }
     {
-        if self.takes("check") {
-            let command = self.on(Verb::Check)?;
-            return Ok(command);
-        }
         if self.takes("replay") {
             return Ok(Some(Command::Replay));
         }
         if self.takes("batch") {
             return Ok(Some(Command::Batch));
         }
+        let command = self.batch_line()?;
+        Ok(command)
+    }
+
+    // A line.
+    #[tactic(auto, unfolding(crate::specs::Grammar::other_lines, crate::specs::Reading::one_of_or))]
+    fn line(&mut self) -> Result<Option<Command>, Reason>
+        ensures { Reads line self.old self.new result }
+    {
+        if self.takes("check") {
+            let command = self.on(Verb::Check)?;
+            return Ok(command);
+        }
         if self.takes("table") {
             let command = self.table()?;
             return Ok(command);
         }
-        let command = self.batch_line()?;
+        if self.takes("workload") {
+            let n = self.number()?;
+            return Ok(draws(n));
+        }
+        let command = self.input_line()?;
         Ok(command)
     }
 }

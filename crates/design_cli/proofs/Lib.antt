@@ -1,0 +1,5 @@
+pub mod Words
+pub mod Outputs
+pub mod BlockTexts
+pub mod Endings
+pub mod Designed

@@ -1,0 +1,14 @@
+use Rattle.std.proofs.Common.{◌≡◌, ◌+◌, ◌≤◌, length}
+use Rattle.incidence.specs.Packed.{size_of}
+use Rattle.design_cli.specs.BlockText.{behind, block_text, lines_of, read_from}
+use Rattle.design_cli.proofs.blocks.read_blocks.Given as goal
+
+abbrev pub invariant-lines : goal.invariant-lines
+invariant-lines l = record {
+  read : block_text l.text ≡ behind l.rows (read_from l.line (lines_of l.rest));
+  lines : l.line + length l.rest ≤ length l.text + 1;
+  room : size_of l.rows + length l.rest ≤ length l.text;
+}
+
+abbrev pub decreases-lines : goal.decreases-lines
+decreases-lines l = length l.rest

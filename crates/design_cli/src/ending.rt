@@ -1,0 +1,95 @@
+//! How the answer to a line ends, and what is then said on the error output.
+ghost use Rattle.std.specs.Prelude.{◌≡◌, ◌<◌, ◌≤◌, [], ◌∷◌, length};
+ghost use Rattle.std.specs.Fmt.{decimal};
+ghost use Rattle.design_lines.specs.Printed.{line_of};
+ghost use Rattle.design_cli.specs.Endings.{status_of, refusal_line, message_of};
+
+use crate::status::Status;
+use design_lines::{Line, Reason};
+
+/// How an answer ends.
+#[derive(Clone, Copy, Debug, PartialEq, Eq)]
+pub enum Ending {
+    Yes,
+    No,
+    /// The words are refused.
+    Refused { reason: Reason },
+    /// The words are in the grammar, and no line yet answers them.
+    NotBuilt,
+    /// The input is bad at this line.
+    BadInput { line: u32 },
+    ReadFault,
+    NoMemory,
+    WriteFault,
+}
+
+// A text, ended as a line.
+fn said(text: &str) -> Line
+    requires { length text.now ≤ 100 }
+    ensures { result ≡ line_of (text.now ∷ []) }
+{
+    let mut line = Line::new();
+    line.push_word(text.as_bytes());
+    line.end();
+    line
+}
+
+// A text and a number, ended as a line.
+#[tactic(auto, using(crate::proofs::Words::line_of_two))]
+fn said_at(text: &str, number: u64) -> Line
+    requires started { 0 < length text.now }
+    requires short { length text.now ≤ 100 }
+    ensures { result ≡ line_of (text.now ∷ decimal number ∷ []) }
+{
+    let mut line = Line::new();
+    line.push_word(text.as_bytes());
+    line.push_number(number);
+    line.end();
+    line
+}
+
+// What is said of words that are refused.
+fn refusal(reason: Reason) -> Line
+    ensures { result ≡ refusal_line reason }
+{
+    match reason {
+        Reason::Missing { at } => said_at("usage: missing word at", at),
+        Reason::Unknown { at } => said_at("usage: unknown word at", at),
+        Reason::Spelling { at } => said_at("usage: number spelling at", at),
+        Reason::Surplus { at } => said_at("usage: surplus word at", at),
+        Reason::OutOfBounds => said("usage: out of bounds"),
+    }
+}
+
+impl Ending {
+    /// The status of a run that ends so.
+    pub fn status(&self) -> Status
+        ensures { result ≡ status_of self.now }
+    {
+        match self {
+            Ending::Yes => Status::Yes,
+            Ending::No => Status::No,
+            Ending::Refused { .. } | Ending::NotBuilt => Status::Usage,
+            Ending::BadInput { .. } => Status::BadInput,
+            Ending::ReadFault => Status::ReadFault,
+            Ending::NoMemory => Status::NoMemory,
+            Ending::WriteFault => Status::WriteFault,
+        }
+    }
+
+    /// The line on the error output, which is empty where nothing is said.
+    #[tactic(auto, unfolding(crate::specs::Endings::message_of))]
+    pub fn message(&self) -> Line
+        ensures { result ≡ message_of self.now }
+    {
+        match *self {
+            Ending::Yes | Ending::No => Line::new(),
+            Ending::Refused { reason } => refusal(reason),
+            Ending::NotBuilt => said("usage: not built"),
+            Ending::BadInput { line } => said_at("bad input at line", u64::from(line)),
+            Ending::ReadFault => said("read fault"),
+            Ending::NoMemory => said("no memory"),
+            Ending::WriteFault => said("write fault"),
+        }
+    }
+}

@@ -1,0 +1,142 @@
+use crate::run;
+use design_io::{MemorySink, MemorySource};
+use std::alloc::AllocError;
+use std::test::Fail;
+
+// A line of words, the input, the number of the output's call that fails, and what comes of it.
+struct Row {
+    words: &'static str,
+    input: &'static str,
+    failing: u32,
+    output: &'static str,
+    message: &'static str,
+    status: u8,
+}
+
+fn words_of(alloc: Global, text: &str) -> Result<Vec<String>, AllocError> {
+    let mut words = Vec::new(alloc);
+    for word in text.split_whitespace() {
+        words.push(String::from_str(alloc, word)?)?;
+    }
+    Ok(words)
+}
+
+// Whether the row comes out so.
+fn holds(alloc: Global, row: &Row) -> Result<bool, AllocError> {
+    let words = words_of(alloc, row.words)?;
+    let text = row.input.as_bytes().to_vec(alloc)?;
+    let mut input = MemorySource::new(text, Vec::new(alloc));
+    let Ok(mut out) = MemorySink::new(alloc, 4096, vec![in alloc; row.failing]?) else {
+        return Err(AllocError);
+    };
+    let Ok(mut err) = MemorySink::new(alloc, 4096, Vec::new(alloc)) else {
+        return Err(AllocError);
+    };
+    let status = run(alloc, &words, &mut input, &mut out, &mut err);
+    Ok(
+        status.number() == row.status
+            && out.bytes() == row.output.as_bytes()
+            && err.bytes() == row.message.as_bytes(),
+    )
+}
+
+const FANO: &str = "0 1 3\n1 2 4\n2 3 5\n3 4 6\n0 4 5\n1 5 6\n0 2 6\n";
+
+fn row(
+    words: &'static str,
+    input: &'static str,
+    output: &'static str,
+    message: &'static str,
+    status: u8,
+) -> Row {
+    Row {
+        words,
+        input,
+        failing: 0,
+        output,
+        message,
+        status,
+    }
+}
+
+#[test]
+fn words_are_refused(rt: HostRuntime) -> Result<(), Fail> {
+    for (words, message) in [
+        ("ask td 129 1", "usage: out of bounds\n"),
+        ("", "usage: missing word at 1\n"),
+        ("ask foo 3", "usage: unknown word at 2\n"),
+        ("ask bibd 09 3 1", "usage: number spelling at 3\n"),
+        ("ask bibd 9 3", "usage: missing word at 5\n"),
+        ("ask td 3 4 5", "usage: surplus word at 5\n"),
+        ("check mols 4 65534", "usage: out of bounds\n"),
+        ("build bibd 7 3 1", "usage: not built\n"),
+        ("check df z 7 3 1", "usage: not built\n"),
+    ] {
+        let right = holds(rt.alloc(), &row(words, FANO, "", message, 64))?;
+        assert!(rt; right, "at {words}");
+    }
+    Ok(())
+}
+
+#[test]
+fn designs_are_built(rt: HostRuntime) -> Result<(), Fail> {
+    let verdict = "bibd 9 3 1 yes bose\n";
+    let fault = "write fault\n";
+    for (failing, output, message, status) in [(1, "", fault, 74), (2, verdict, fault, 74)] {
+        let row = Row {
+            words: "build bibd 9 3 1",
+            input: "",
+            failing,
+            output,
+            message,
+            status,
+        };
+        let right = holds(rt.alloc(), &row)?;
+        assert!(rt; right, "where call {failing} fails");
+    }
+    let no = row("build bibd 8 3 1", "", "bibd 8 3 1 no replication\n", "", 1);
+    assert!(rt; holds(rt.alloc(), &no)?);
+    Ok(())
+}
+
+#[test]
+fn blocks_are_checked(rt: HostRuntime) -> Result<(), Fail> {
+    for (input, output, message, status) in [
+        (FANO, "bibd 7 3 1 valid\n", "", 0),
+        (
+            "0 1 3\n1 2 4\n2 3 5\n3 4 6\n0 4 5\n1 5 6\n0 2 5\n",
+            "bibd 7 3 1 invalid pair 0 5 covered 2\n",
+            "",
+            1,
+        ),
+        (
+            "0 1 3\n1 2 4\n2 3 5\n3 4 6\n0 4 5\n1 5 6\n0 2 2\n",
+            "bibd 7 3 1 invalid block 7\n",
+            "",
+            1,
+        ),
+        ("0 1 3\n1 x 4\n", "", "bad input at line 2\n", 65),
+        ("", "bibd 7 3 1 invalid pair 0 1 covered 0\n", "", 1),
+    ] {
+        let right = holds(
+            rt.alloc(),
+            &row("check bibd 7 3 1", input, output, message, status),
+        )?;
+        assert!(rt; right, "at {input}");
+    }
+    Ok(())
+}
+
+#[test]
+fn input_that_fails_is_a_read_fault(rt: HostRuntime) -> Result<(), Fail> {
+    let alloc = rt.alloc();
+    let words = words_of(alloc, "check bibd 7 3 1")?;
+    let mut input = MemorySource::new(Vec::new(alloc), vec![in alloc; 1u32]?);
+    let mut out = MemorySink::new(alloc, 100, Vec::new(alloc))?;
+    let mut err = MemorySink::new(alloc, 100, Vec::new(alloc))?;
+    let status = run(alloc, &words, &mut input, &mut out, &mut err);
+    assert_eq!(rt; status.number(), 66);
+    assert!(rt; out.bytes().is_empty());
+    assert_eq!(rt; err.bytes(), b"read fault\n".as_slice());
+    Ok(())
+}
