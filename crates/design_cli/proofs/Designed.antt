@@ -1,4 +1,4 @@
--- The blocks of each question that is answered by yes are such a design.
+-- What is said of blocks is so: those of each yes are such a design, and exactly such are found valid.
 use Rattle.std.proofs.Common.{◌≡◌, ℕ, ◌%◌, ◌==◌, ◌&&◌, Bool, true, false, Some, None, if◌then◌else◌, refl, subst, sym}
 use Rattle.std.specs.Prelude.{nat_le}
 use Rattle.std.proofs.lemmas.Bool.{eqb-true, and_parts}
@@ -10,6 +10,8 @@ use Rattle.design_base.specs.declared.verdict.Criterion.TheVariants.{Replication
 use Rattle.design_base.specs.declared.verdict.Verdict.TheVariants.{Yes, No}
 use Rattle.design_base.specs.Steps.{step}
 use Rattle.triple_systems.proofs.BoseSystem.{bose_design}
+use Rattle.design_checks.proofs.Meeting.{bibd_valid, gdd_valid, pbd_valid, td_valid}
+use Rattle.design_cli.specs.Report.{EachValidIsDesign}
 use Rattle.design_cli.specs.Chosen.{triple_verdict, chosen, blocks_at, IsDesigned, EachYesIsDesigned}
 
 -- the triple systems, by the tests of their verdict
@@ -31,3 +33,10 @@ each_yes_is_designed (Df group v k l) = tt
 each_yes_is_designed (Bibd v k l) = bibd_designed v k l (k == 3 && l == 1) (λ e. let parts = and_parts (k == 3) (l == 1) e in (eqb-true k 3 parts.0, eqb-true l 1 parts.1))
 each_yes_is_designed (Gdd k g u) = tt
 each_yes_is_designed (Pbd v s) = tt
+
+pub each_valid_is_design : EachValidIsDesign
+each_valid_is_design (Td k n) B checked = td_valid B k n
+each_valid_is_design (Df group v k l) B checked = cc
+each_valid_is_design (Bibd v k l) B checked = bibd_valid B v k l
+each_valid_is_design (Gdd k g u) B checked = gdd_valid B k g u
+each_valid_is_design (Pbd v s) B checked = pbd_valid B v s

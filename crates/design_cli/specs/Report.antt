@@ -1,11 +1,12 @@
 -- What the program answers: the lines on the output, and how the run ends.
-use Rattle.std.specs.Prelude.{ℕ, ◌≡◌, Bool, true, false, nat_le, List, [], ◌∷◌, ◌++◌, length, map, Option, Some, None, IsSomeAnd, Result, Ok, Err, String, string_bytes, if◌then◌else◌}
+use Rattle.std.specs.Prelude.{ℕ, ◌≡◌, ◌↔◌, Bool, true, false, nat_le, List, [], ◌∷◌, ◌++◌, length, map, Option, Some, None, IsSomeAnd, Result, Ok, Err, String, string_bytes, if◌then◌else◌}
 use Rattle.std.specs.List.{flat_map}
 use Rattle.std.specs.Option.{option_map}
 use Rattle.counting.specs.Sorting.{sort_by}
 use Rattle.design_base.specs.declared.limits.TheConstants.{INPUT_MAX}
 use Rattle.design_base.specs.declared.query.Query.{Query}
 use Rattle.design_base.specs.declared.query.Query.TheVariants.{Td, Df, Bibd, Gdd, Pbd}
+use Rattle.design_base.specs.Meets.{Meets}
 use Rattle.design_base.specs.Steps.{Step}
 use Rattle.design_base.specs.declared.verdict.Criterion.{Criterion}
 use Rattle.design_base.specs.declared.verdict.Verdict.{Verdict}
@@ -111,3 +112,7 @@ report_of words input = command_report (command_of words) input
 -- the words are refused
 abbrev pub IsRefused : Option Report → Type 0
 IsRefused report = IsSomeAnd report (λ r. status_of r.ending ≡ Usage)
+
+-- blocks are found valid exactly where they are such a design
+abbrev pub EachValidIsDesign : Type 0
+EachValidIsDesign = (q : Query) (B : List (List ℕ)) → is_checked q ≡ true → (finding q B ≡ Valid) ↔ Meets q B

@@ -3,7 +3,7 @@ ghost use Rattle.std.specs.Prelude.{◌≡◌, ◌↔◌, IfSome, IsSomeAnd, fal
 ghost use Rattle.design_io.specs.Faults.{Rose};
 ghost use Rattle.design_cli.specs.Chosen.{EachYesIsDesigned};
 ghost use Rattle.design_cli.specs.Endings.{status_of};
-ghost use Rattle.design_cli.specs.Report.{command_of, reads_input, report_of, IsRefused};
+ghost use Rattle.design_cli.specs.Report.{EachValidIsDesign, IsRefused, command_of, reads_input, report_of};
 ghost use Rattle.design_cli.specs.Runs.{EndsAs, EndsWith, HasFault, HasReadFault, IsSilent, Says, message_at};
 
 use crate::building::answer_build;
@@ -53,7 +53,7 @@ fn answer<S: Source, K: Sink>(alloc: Global, words: &[String], input: &mut S, ou
 
 /// Answers the words of a command line: writes the report on `out`, and at most one line on `err`, and says how that
 /// ended. The input is read only where the words ask for a check.
-#[tactic(auto, using(crate::proofs::Designed::each_yes_is_designed))]
+#[tactic(auto, using(crate::proofs::Designed::each_yes_is_designed, crate::proofs::Designed::each_valid_is_design))]
 pub fn run<S: Source, K: Sink, E: Sink>(
     alloc: Global,
     words: &[String],
@@ -65,8 +65,9 @@ pub fn run<S: Source, K: Sink, E: Sink>(
     ensures ends { EndsAs (report_of words.now (S.left input.old)) result (K.held out.old) (K.held out.new) }
     ensures usage { (result ≡ Status.Usage) ↔ IsRefused (report_of words.now (S.left input.old)) }
 
-    // Each yes is a design.
+    // The blocks of a yes are such a design, and exactly such blocks are found valid.
     ensures design { EachYesIsDesigned }
+    ensures valid { EachValidIsDesign }
 
     // A fault comes only where the count of its object rose, and a read fault only where the words read the input.
     ensures write_fault { result ≡ Status.WriteFault → Rose (K.faults out.old) (K.faults out.new) }

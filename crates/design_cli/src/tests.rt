@@ -1,9 +1,10 @@
 use crate::run;
 use design_io::{MemorySink, MemorySource};
-use std::alloc::AllocError;
+use std::alloc::{AllocError, Global};
 use std::test::Fail;
 
 // A line of words, the input, the number of the output's call that fails, and what comes of it.
+#[derive(Drop)]
 struct Row {
     words: &'static str,
     input: &'static str,

@@ -1,0 +1,16 @@
+pub mod Once
+pub mod LinearSpaces
+pub mod EachLine
+pub mod VectorSpaces
+pub mod Space
+pub mod Affine
+pub mod Span
+pub mod Projective
+pub mod Leads
+pub mod Geometries
+pub mod LeadSteps
+pub mod PointSteps
+pub mod LeastSteps
+pub mod WeightSteps
+pub mod Bounds
+pub mod ListedLines

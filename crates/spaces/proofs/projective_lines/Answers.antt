@@ -1,0 +1,22 @@
+use Rattle.std.proofs.Common.{arith, subst, sym, ◌+◌, ◌∙◌}
+use Rattle.design_base.specs.Blocks.{IsBibd}
+use Rattle.spaces.proofs.Bounds.{order_small}
+use Rattle.spaces.proofs.ListedLines.{length-points_in, projective_is_design, projective_listed}
+use Rattle.spaces.specs.GeometryLines.{IsProjective}
+use Rattle.spaces.specs.Points.{point_count}
+use Rattle.spaces.proofs.projective_lines.Goals as goal
+
+pub lines-requires-clause-points : goal.lines-requires-clause-points
+lines-requires-clause-points c = omega (arith, length-points_in c.in_ok-geometry.geometry c.args.field.now c.args.d c.in_ok-geometry.ensures, c.requires.in_bounds)
+
+pub lines-requires-clause-weights : goal.lines-requires-clause-weights
+lines-requires-clause-weights c =
+    let h : IsProjective c.args.field.now (c.args.d + 1) c.in_ok-geometry.geometry = c.in_ok-geometry.ensures in
+    omega (arith, h.weights.count, order_small c.args.field.now c.args.d c.requires.dimension, c.requires.in_bounds)
+
+pub returns-clause-blocks : goal.returns-clause-blocks
+returns-clause-blocks c = c.in_ok-lines.ensures ∙ projective_listed c.in_ok-geometry.geometry c.args.field.now c.args.d c.in_ok-geometry.ensures
+
+pub returns-clause-design : goal.returns-clause-design
+returns-clause-design c = subst (λ B. IsBibd B (point_count c.args.field.now c.args.d) (c.args.field.now + 1) 1) (sym c.in_ok-lines.ensures)
+    (projective_is_design c.in_ok-geometry.geometry c.args.field.now c.args.d c.in_ok-geometry.ensures)

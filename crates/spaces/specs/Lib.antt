@@ -1,0 +1,6 @@
+pub mod Vectors
+pub mod Points
+pub mod Lines
+pub mod Least
+pub mod Weights
+pub mod GeometryLines

@@ -1,0 +1,40 @@
+// Vectors of `n` entries over a field of `q` elements, as numbers below `q ^ n`: the entries of a vector are the digits of its
+// number to the base `q`, the first entry lowest.
+ghost use Rattle.std.specs.Prelude.{◌≡◌, ◌^◌, ◌<◌};
+ghost use Rattle.design_base.specs.Fields.{field_product, field_sum};
+ghost use Rattle.spaces.specs.Points.{lead as lead_of};
+ghost use Rattle.spaces.specs.Vectors.{combination as combination_of};
+
+use field_tables::Field;
+
+// The vector a * x + b * y.
+#[tactic(auto)]
+pub fn combination(field: &Field, n: u16, a: u16, x: u16, b: u16, y: u16) -> u16
+    requires weights { (a < field.now) × (b < field.now) }
+    requires fits { field.now ^ n < 2 ^ 16 }
+    ensures value { result ≡ combination_of (field_sum field.now) (field_product field.now) field.now n a x b y }
+    ensures below { result < field.now ^ n }
+{
+    if n == 0 {
+        return 0;
+    }
+    let q = field.order();
+    let first = field.add(field.mul(a, x % q), field.mul(b, y % q));
+    first + q * combination(field, n - 1, a, x / q, b, y / q)
+}
+
+// The first entry that is not 0, and 0 where there is none.
+#[tactic(auto, using(crate::proofs::LeadSteps::lead_steps))]
+pub fn lead(q: u16, n: u16, x: u16) -> u16
+    requires { 0 < q }
+    ensures value { result ≡ lead_of q n x }
+    ensures below { result < q }
+{
+    if n == 0 {
+        0
+    } else if x % q != 0 {
+        x % q
+    } else {
+        lead(q, n - 1, x / q)
+    }
+}
