@@ -5,7 +5,7 @@ use std::test::Fail;
 
 // A line of words, the input, the number of the output's call that fails, and what comes of it.
 #[derive(Drop)]
-struct Row {
+struct Case {
     words: &'static str,
     input: &'static str,
     failing: u32,
@@ -23,7 +23,7 @@ fn words_of(alloc: Global, text: &str) -> Result<Vec<String>, AllocError> {
 }
 
 // Whether the row comes out so.
-fn holds(alloc: Global, row: &Row) -> Result<bool, AllocError> {
+fn holds(alloc: Global, row: &Case) -> Result<bool, AllocError> {
     let words = words_of(alloc, row.words)?;
     let text = row.input.as_bytes().to_vec(alloc)?;
     let mut input = MemorySource::new(text, Vec::new(alloc));
@@ -43,14 +43,14 @@ fn holds(alloc: Global, row: &Row) -> Result<bool, AllocError> {
 
 const FANO: &str = "0 1 3\n1 2 4\n2 3 5\n3 4 6\n0 4 5\n1 5 6\n0 2 6\n";
 
-fn row(
+fn told(
     words: &'static str,
     input: &'static str,
     output: &'static str,
     message: &'static str,
     status: u8,
-) -> Row {
-    Row {
+) -> Case {
+    Case {
         words,
         input,
         failing: 0,
@@ -73,7 +73,7 @@ fn words_are_refused(rt: HostRuntime) -> Result<(), Fail> {
         ("build bibd 7 3 1", "usage: not built\n"),
         ("check df z 7 3 1", "usage: not built\n"),
     ] {
-        let right = holds(rt.alloc(), &row(words, FANO, "", message, 64))?;
+        let right = holds(rt.alloc(), &told(words, FANO, "", message, 64))?;
         assert!(rt; right, "at {words}");
     }
     Ok(())
@@ -84,7 +84,7 @@ fn designs_are_built(rt: HostRuntime) -> Result<(), Fail> {
     let verdict = "bibd 9 3 1 yes bose\n";
     let fault = "write fault\n";
     for (failing, output, message, status) in [(1, "", fault, 74), (2, verdict, fault, 74)] {
-        let row = Row {
+        let row = Case {
             words: "build bibd 9 3 1",
             input: "",
             failing,
@@ -95,7 +95,7 @@ fn designs_are_built(rt: HostRuntime) -> Result<(), Fail> {
         let right = holds(rt.alloc(), &row)?;
         assert!(rt; right, "where call {failing} fails");
     }
-    let no = row("build bibd 8 3 1", "", "bibd 8 3 1 no replication\n", "", 1);
+    let no = told("build bibd 8 3 1", "", "bibd 8 3 1 no replication\n", "", 1);
     assert!(rt; holds(rt.alloc(), &no)?);
     Ok(())
 }
@@ -121,7 +121,7 @@ fn blocks_are_checked(rt: HostRuntime) -> Result<(), Fail> {
     ] {
         let right = holds(
             rt.alloc(),
-            &row("check bibd 7 3 1", input, output, message, status),
+            &told("check bibd 7 3 1", input, output, message, status),
         )?;
         assert!(rt; right, "at {input}");
     }
