@@ -2,8 +2,6 @@
 use Rattle.std.proofs.Common.{◌≡◌, ℕ, ◌%◌, ◌==◌, ◌&&◌, Bool, true, false, Some, None, if◌then◌else◌, refl, subst, sym}
 use Rattle.std.specs.Prelude.{nat_le}
 use Rattle.std.proofs.lemmas.Bool.{eqb-true, and_parts}
-use Rattle.design_base.specs.Blocks.{IsBibd}
-use Rattle.design_base.specs.declared.query.Query.{Query}
 use Rattle.design_base.specs.declared.query.Query.TheVariants.{Td, Df, Bibd, Gdd, Pbd}
 use Rattle.design_base.specs.declared.rule.Rule.TheVariants.{Bose}
 use Rattle.design_base.specs.declared.verdict.Criterion.TheVariants.{Replication}
@@ -12,7 +10,7 @@ use Rattle.design_base.specs.Steps.{step}
 use Rattle.triple_systems.proofs.BoseSystem.{bose_design}
 use Rattle.design_checks.proofs.Meeting.{bibd_valid, gdd_valid, pbd_valid, td_valid}
 use Rattle.design_cli.specs.Report.{EachValidIsDesign}
-use Rattle.design_cli.specs.Chosen.{triple_verdict, chosen, blocks_at, IsDesigned, EachYesIsDesigned}
+use Rattle.design_cli.specs.Chosen.{triple_verdict, IsDesigned, EachYesIsDesigned}
 
 -- the triple systems, by the tests of their verdict
 triples_designed : (v : ℕ) (even odd : Bool) → (odd ≡ true → v % 6 ≡ 3) → IsDesigned (Bibd v 3 1) (if even then Some (No Replication) else if odd then Some (Yes (step Bose 0 0 0 0)) else None)

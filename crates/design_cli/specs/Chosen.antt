@@ -2,11 +2,11 @@
 use Rattle.std.specs.Prelude.{ℕ, ◌%◌, ◌==◌, ◌&&◌, nat_le, List, [], Option, Some, None, ⊤, if◌then◌else◌}
 use Rattle.design_base.specs.Canonical.{canonical}
 use Rattle.design_base.specs.declared.query.Query.{Query}
-use Rattle.design_base.specs.declared.query.Query.TheVariants.{Td, Df, Bibd, Gdd, Pbd}
+use Rattle.design_base.specs.declared.query.Query.TheVariants.{Bibd}
 use Rattle.design_base.specs.declared.rule.Rule.TheVariants.{Bose}
 use Rattle.design_base.specs.declared.verdict.Criterion.TheVariants.{Replication}
 use Rattle.design_base.specs.declared.verdict.Verdict.{Verdict}
-use Rattle.design_base.specs.declared.verdict.Verdict.TheVariants.{Yes, No, Unknown}
+use Rattle.design_base.specs.declared.verdict.Verdict.TheVariants.{Yes, No}
 use Rattle.design_base.specs.Meets.{Meets}
 use Rattle.design_base.specs.Steps.{step}
 use Rattle.triple_systems.specs.Bose.{bose_blocks}
