@@ -1,4 +1,5 @@
 pub mod Counting
+pub mod Families
 pub mod Increasing
 pub mod Meeting
 pub mod RowByRow

@@ -1,13 +1,18 @@
 -- A finding is Valid exactly where the block list meets the question.
-use Rattle.std.proofs.Common.{Bool, List, false, refl, true, ℕ, ◌*◌, ◌+◌, ◌≡◌, ◌⊎◌}
+use Rattle.std.proofs.Common.{Bool, List, arith, false, refl, sym, true, ℕ, ◌&&◌, ◌*◌, ◌+◌, ◌<◌, ◌∙◌, ◌≡◌, ◌≤◌, ◌⊎◌}
+use Rattle.std.proofs.lemmas.Bool.{and_parts, leb-true}
 use Rattle.std.specs.Bool.{Decides}
-use Rattle.std.specs.Prelude.{◌↔◌}
+use Rattle.std.specs.Prelude.{nat_le, ◌↔◌}
 use Rattle.design_base.specs.Blocks.{IsBibd, IsGdd, IsPbd, IsTd, across}
 use Rattle.design_base.specs.Fields.{FieldAt, has_field}
-use Rattle.design_base.specs.Meets.{Meets, group_add}
+use Rattle.design_base.specs.Limits.{in_bounds, is_listed, within}
+use Rattle.design_base.specs.Meets.{GroupAt, Meets, group_add}
+use Rattle.design_base.specs.declared.limits.TheConstants.{COVER_MAX, POINTS_MAX}
+use Rattle.design_base.specs.declared.query.Group.{Group}
 use Rattle.design_base.specs.declared.query.Group.TheVariants.{Cyclic, Field}
 use Rattle.design_base.specs.declared.query.Query.{Query}
 use Rattle.design_base.specs.declared.query.Query.TheVariants.{Bibd, Df, Gdd, Pbd, Td}
+use Rattle.field_tables.proofs.Listed.{FieldAt-listed, listed-FieldAt}
 use Rattle.design_checks.proofs.Valid.{design_is_valid, exactly, family_is_valid, or_one_more, valid_is_design, valid_is_family}
 use Rattle.design_checks.specs.Findings.{family_finding, finding}
 use Rattle.design_checks.specs.declared.finding.Finding.{Finding}
@@ -56,3 +61,44 @@ module _ (fields : (q : ℕ) → Decides (has_field q) (FieldAt q)) where
   meets_valid (Bibd v k l) B h = (bibd_valid B v k l).1 h
   meets_valid (Gdd k g u) B h = (gdd_valid B k g u).1 h
   meets_valid (Pbd v s) B h = (pbd_valid B v s).1 h
+
+-- what a check finds is Valid exactly where the list meets the question
+pub found_meets : (q : Query) (B : List (List ℕ)) (found : Finding) → found ≡ finding q B → (found ≡ Valid) ↔ Meets q B
+found_meets q B found e = ((λ f. valid_meets listed q B (sym e ∙ f)), (λ h. e ∙ meets_valid listed q B h))
+  where
+    listed : (q : ℕ) → Decides (has_field q) (FieldAt q)
+    listed q = (FieldAt-listed q, listed-FieldAt q)
+
+-- a group that is asked for in bounds
+pub record IsGroup (group : Group) (v : ℕ) : Type 0 where
+  pub some : 0 < v
+  pub small : v ≤ POINTS_MAX
+  pub listed : is_listed group v ≡ true
+  pub is_group : GroupAt group v
+
+listed_group : (group : Group) (v : ℕ) → is_listed group v ≡ true → GroupAt group v
+listed_group Cyclic v e = tt
+listed_group Field v e = FieldAt-listed v e
+
+pub group_asked : (group : Group) (v k l : ℕ) → in_bounds (Df group v k l) ≡ true → IsGroup group v
+unfolding in_bounds
+group_asked group v k l e =
+    let a = and_parts (within 2 v k && nat_le v POINTS_MAX && within 1 COVER_MAX l) (is_listed group v) e in
+    let b = and_parts (within 2 v k && nat_le v POINTS_MAX) (within 1 COVER_MAX l) a.0 in
+    let c = and_parts (within 2 v k) (nat_le v POINTS_MAX) b.0 in
+    let d = and_parts (nat_le 2 k) (nat_le k v) c.0 in
+    record {
+      some = omega (arith, leb-true 2 k d.0, leb-true k v d.1);
+      small = leb-true v POINTS_MAX c.1;
+      listed = a.1;
+      is_group = listed_group group v a.1;
+    }
+
+pub family_found : (group : Group) (v k l : ℕ) (B : List (List ℕ)) → is_listed group v ≡ true → finding (Df group v k l) B ≡ family_finding B (group_add group v) v k l
+unfolding finding
+family_found Cyclic v k l B e = refl
+family_found Field v k l B e = by_order (has_field v) e
+  where
+    by_order : (t : Bool) → t ≡ true → ◌≡◌ {A = Finding} (elim t [ true ↦ family_finding B (group_add Field v) v k l | false ↦ BadPair 0 1 0 ]) (family_finding B (group_add Field v) v k l)
+    by_order true f = refl
+    by_order false f = cc

@@ -10,7 +10,7 @@ use Rattle.design_base.specs.Blocks.{IsBlock, IsDesign, IsDf, cover, differences
 use Rattle.design_base.specs.Limits.{within}
 use Rattle.design_checks.proofs.Increasing.{increasing_from_test, test_from_increasing}
 use Rattle.design_checks.proofs.Search.{below_none, found_below, found_single, none_below, none_position, none_single, position_none, single_none}
-use Rattle.design_checks.specs.Counts.{Agree, IsFirstBad, IsRow, IsFirstDifference}
+use Rattle.design_checks.specs.Counts.{Agree, IsFirstBad, IsRow, IsRowOf, IsFirstDifference}
 use Rattle.design_checks.specs.Findings.{block_finding, design_finding, family_finding, is_block, pair_finding, pairs, pairs_of, rises}
 use Rattle.design_checks.specs.declared.finding.Finding.{Finding}
 use Rattle.design_checks.specs.declared.finding.Finding.TheVariants.{BadBlock, BadPair, Valid}
@@ -60,6 +60,13 @@ module _ (counts want : ℕ → ℕ → ℕ) where
     pub first_bad_pair : (p : Pair) → IsFirstBad counts want v 0 v p → pair_finding counts want (pairs v) ≡ BadPair p.x p.y p.count
     first_bad_pair p b =
         rw (found_below differs v p.x (pairs_of v) (p.x, p.y) b.below (λ x l. agree_none v x (b.before x (omega arith) l)) (partner_found v p.x p.y b.partner), pair_finding) (ap (BadPair p.x p.y) (sym b.count))
+
+    -- the first bad pair of those with 0
+    pub first_bad_with_0 : (p : Pair) → IsFirstBad counts want v 0 1 p → pair_finding counts want (pairs_of v 0) ≡ BadPair p.x p.y p.count
+    first_bad_with_0 p b =
+        let none_below_0 : p.x ≡ 0 = omega (arith, b.below) in
+        let found : first_in differs (pairs_of v 0) ≡ Some (p.x, p.y) = subst (λ x. first_in differs (pairs_of v x) ≡ Some (p.x, p.y)) none_below_0 (partner_found v p.x p.y b.partner) in
+        rw (found, pair_finding) (ap (BadPair p.x p.y) (sym b.count))
 
     pub valid_pairs : pair_finding counts want (pairs v) ≡ Valid → (x y : ℕ) → x < y → y < v → counts x y ≡ want x y
     valid_pairs e x y l m = none_agree v x (below_none differs v (pairs_of v) (valid_none (pairs v) e) x (omega arith)) y (omega arith) m
@@ -140,8 +147,17 @@ module _ (B : List (List ℕ)) (add : ℕ → ℕ → ℕ) (v k l : ℕ) where
       (none_position (λ block. not (is_block v k k block)) B [] (λ i d n. not_from_true _ (test_from_block v k k (λ n. n ≡ k) (exactly k) _ (h.blocks i d n))))
       ∙ none_valid (λ x d. differences add B d) (λ x d. l) (pairs_of v 0) (agree_none (λ x d. differences add B d) (λ x d. l) v 0 (λ d a b. h.each d (omega arith) b))
 
--- rows of good blocks have their places in a line of the table
-pub good_rows : (v least most : ℕ) (B : List (List ℕ)) → position (λ row. not (is_block v least most row)) B ≡ None → v ≤ WIDTH → All IsRow B
-good_rows v least most B e l k d m =
+-- good blocks are rows of points
+pub good_rows_of : (v least most : ℕ) (B : List (List ℕ)) → position (λ row. not (is_block v least most row)) B ≡ None → All (IsRowOf v) B
+good_rows_of v least most B e k d m =
     let b = block_from_test v least most (λ n. within least most n ≡ true) (λ n. ((λ e. e), (λ e. e))) (get_or B k d) (not-false _ (position_none (λ block. not (is_block v least most block)) B e k d m)) in
+    record { rises = b.rises; below = b.below; size = tt }
+
+-- rows of points have their places in a line of the table
+pub wide_rows : (v : ℕ) (B : List (List ℕ)) → v ≤ WIDTH → All (IsRowOf v) B → All IsRow B
+wide_rows v B w rows k d m =
+    let b = rows k d m in
     record { rises = b.rises; below = λ i x n. let p : get_or (get_or B k d) i x < v = b.below i x n in omega arith; size = tt }
+
+pub good_rows : (v least most : ℕ) (B : List (List ℕ)) → position (λ row. not (is_block v least most row)) B ≡ None → v ≤ WIDTH → All IsRow B
+good_rows v least most B e w = wide_rows v B w (good_rows_of v least most B e)

@@ -16,9 +16,13 @@ abbrev pub IsWanted : Wanted → Type 0
 IsWanted (Everywhere l) = Unit {0}
 IsWanted (Across g) = (0 < g) × (g ≤ WIDTH)
 
+-- increasing numbers below v
+abbrev pub IsRowOf : ℕ → List ℕ → Type 0
+IsRowOf v row = IsBlock v (λ size. Unit {0}) row
+
 -- increasing numbers, each of which has its place in a line of the table
 abbrev pub IsRow : List ℕ → Type 0
-IsRow row = IsBlock WIDTH (λ size. Unit {0}) row
+IsRow row = IsRowOf WIDTH row
 
 -- the place of the count of x and y in a table whose first line is that of the point low
 abbrev pub cell : ℕ → ℕ → ℕ → ℕ

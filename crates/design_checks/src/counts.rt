@@ -3,6 +3,8 @@ ghost use Rattle.std.specs.Prelude.{◌≡◌, ◌==◌, ◌+◌, ◌*◌, ◌-�
 ghost use Rattle.std.specs.List.Sorted.{IsStrictlyIncreasing};
 ghost use Rattle.counting.specs.Sums.{one};
 ghost use Rattle.design_base.specs.Blocks.{holds};
+ghost use Rattle.design_base.specs.declared.limits.TheConstants.{PACKED_MAX};
+ghost use Rattle.incidence.specs.Packed.{size_of};
 ghost use Rattle.design_checks.specs.Counts.{Counts, IsRow, Pairwise, cell};
 ghost use Rattle.design_checks.specs.declared.scratch.TheConstants.{WIDTH};
 
@@ -51,7 +53,8 @@ fn count_row(row: &[u16], low: u16, high: u16, counts: &mut [u32])
 pub(crate) fn count_rows(rows: &Rows, low: u16, high: u16, counts: &mut [u32])
     requires rows { All IsRow rows.now }
     requires lines { (low ≤ high) × ((high - low) * WIDTH ≤ length counts.old) }
-    ensures { Counts counts.new low high rows.now }
+    ensures counts { Counts counts.new low high rows.now }
+    ensures small { size_of rows.now < PACKED_MAX }
 {
     counts.fill(0);
     for i in 0..rows.len() {

@@ -5,11 +5,12 @@
 mod blocks;
 mod checks;
 mod counts;
+mod differences;
 mod finding;
 mod pairs;
 mod scratch;
 
-pub use checks::{check_bibd, check_gdd, check_pbd, check_td};
+pub use checks::{check, check_bibd, check_df, check_gdd, check_pbd, check_td};
 pub use finding::Finding;
 pub use scratch::Scratch;
 

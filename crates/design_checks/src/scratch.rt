@@ -2,13 +2,13 @@
 ghost use Rattle.std.specs.Prelude.{◌≡◌, ◌*◌, length};
 ghost use Rattle.design_checks.specs.declared.scratch.TheConstants.{LINES, WIDTH};
 
-use design_base::{Memory, TD_K_MAX, TD_N_MAX};
+use design_base::{Memory, POINTS_MAX, TD_K_MAX, TD_N_MAX};
 use std::alloc::Global;
 
 /// The counts in a line of the table: one for each point of the largest design.
 pub(crate) const WIDTH: usize = TD_K_MAX as usize * TD_N_MAX as usize;
-/// The lines of the table: one for each of so many points that are counted at a time.
-pub(crate) const LINES: u16 = TD_N_MAX;
+/// The lines of the table: one for each of so many points that are counted at a time, which are all elements of a group.
+pub(crate) const LINES: u16 = POINTS_MAX;
 
 /// Room for the counts of the checks, which serves any number of them.
 #[derive(Drop)]

@@ -2,8 +2,9 @@ ghost use Rattle.std.specs.Prelude.{◌≡◌, ◌^◌, ◌<◌, IfOk, length, m
 ghost use Rattle.design_base.specs.declared.limits.TheConstants.{PACKED_MAX};
 ghost use Rattle.incidence.specs.Packed.{size_of};
 
-use crate::{Finding, Scratch, check_bibd, check_gdd, check_pbd, check_td};
-use design_base::Memory;
+use crate::{Finding, Scratch, check, check_bibd, check_gdd, check_pbd, check_td};
+use design_base::{Group, Memory, Query, in_bounds};
+use field_tables::Fields;
 use incidence::Rows;
 use std::alloc::Global;
 use std::test::Fail;
@@ -142,5 +143,49 @@ fn blocks_of_two_sizes(rt: HostRuntime) -> Result<(), Fail> {
         check_pbd(&rows, 5, 2, &mut scratch),
         Finding::BadBlock { index: 9 }
     );
+    Ok(())
+}
+
+#[test]
+fn base_blocks(rt: HostRuntime) -> Result<(), Fail> {
+    let fields = Fields::open(rt.alloc())?;
+    let mut scratch = Scratch::new(rt.alloc())?;
+    let twice = Finding::BadPair {
+        x: 0,
+        y: 1,
+        count: 2,
+    };
+    let table: [(Group, u16, u16, u16, &[u16], Finding); 4] = [
+        (Group::Cyclic, 7, 3, 1, &[0, 1, 3], Finding::Valid),
+        (Group::Cyclic, 7, 3, 1, &[0, 1, 2], twice),
+        (
+            Group::Cyclic,
+            7,
+            3,
+            1,
+            &[0, 3, 1],
+            Finding::BadBlock { index: 1 },
+        ),
+        (
+            Group::Field,
+            16,
+            6,
+            2,
+            &[3, 7, 11, 12, 13, 14],
+            Finding::Valid,
+        ),
+    ];
+    for (group, v, k, l, block, finding) in table {
+        let mut rows = Rows::new(rt.alloc());
+        assert!(rt; block.len() < 10);
+        rows.push_row(block)?;
+        let q = Query::Df { group, v, k, l };
+        assert!(rt; in_bounds(&q));
+        assert_eq!(rt;
+            check(&q, &rows, &fields, &mut scratch),
+            finding,
+            "of {block:?}"
+        );
+    }
     Ok(())
 }

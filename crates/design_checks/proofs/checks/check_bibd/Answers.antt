@@ -7,4 +7,4 @@ pub returns-clause-valid : goal.returns-clause-valid
 unfolding finding
 returns-clause-valid c =
     let told = bibd_valid c.args.rows.now c.args.v c.args.k c.args.l in
-    ((λ e. told.0 (sym c.check.ensures ∙ e)), (λ h. c.check.ensures ∙ told.1 h))
+    ((λ e. told.0 (sym c.check_design.ensures ∙ e)), (λ h. c.check_design.ensures ∙ told.1 h))

@@ -4,7 +4,7 @@ use Rattle.design_base.specs.Blocks.{cover}
 use Rattle.design_checks.proofs.Valid.{all_good, first_bad_pair, good_rows, no_bad_pair}
 use Rattle.design_checks.specs.Counts.{want}
 use Rattle.design_checks.specs.Findings.{is_block, pair_finding, pairs}
-use Rattle.design_checks.proofs.checks.check.Goals as goal
+use Rattle.design_checks.proofs.checks.check_design.Goals as goal
 
 pub first_bad_pair-requires-clause-rows : goal.first_bad_pair-requires-clause-rows
 first_bad_pair-requires-clause-rows c = good_rows c.args.v c.args.least c.args.most c.args.rows.now (cc) c.requires.points
