@@ -11,7 +11,7 @@ ghost use Rattle.design_checks.specs.declared.scratch.TheConstants.{LINES, WIDTH
 use crate::blocks::first_bad_block;
 use crate::differences::first_bad_difference;
 use crate::finding::{Finding, Wanted};
-use crate::pairs::first_bad_pair;
+use crate::pairs::first_bad_pair_of;
 use crate::scratch::Scratch;
 use design_base::{Group, Query};
 use field_tables::Fields;
@@ -43,7 +43,7 @@ fn check_design(
     if let Some(i) = first_bad_block(rows, v, least, most) {
         return bad_block(i);
     }
-    match first_bad_pair(rows, wanted, v, &mut scratch.counts) {
+    match first_bad_pair_of(rows, wanted, v, &mut scratch.counts) {
         Some(pair) => Finding::BadPair {
             x: pair.x,
             y: pair.y,

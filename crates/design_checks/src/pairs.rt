@@ -2,11 +2,11 @@
 ghost use Rattle.std.specs.Prelude.{◌≡◌, ◌==◌, ◌+◌, ◌*◌, ◌-◌, ◌/◌, ◌^◌, ◌<◌, ◌≤◌, ◌↔◌, All, IsTrue, MatchOption, cond, length, nat_lt, slice_index, ℕ};
 ghost use Rattle.design_base.specs.Blocks.{cover};
 ghost use Rattle.design_checks.specs.Counts.{Agree, IsFirstBad, IsRow, IsWanted, IsFirstDifference, cell, want};
-ghost use Rattle.design_checks.specs.declared.scratch.TheConstants.{LINES, WIDTH};
+ghost use Rattle.design_checks.specs.declared.scratch.TheConstants.{CHUNK_COUNTS, LINES, WIDTH};
 
 use crate::counts::count_rows;
 use crate::finding::{Pair, Wanted};
-use crate::scratch::{LINES, WIDTH};
+use crate::scratch::{CHUNK, CHUNK_COUNTS, WIDTH};
 use incidence::Rows;
 
 // The point with which those begin that x is to meet, and how often it is to meet each of them. It is to meet none of the
@@ -85,8 +85,29 @@ fn first_bad_count(counts: &[u32], wanted: Wanted, v: u16, low: u16, high: u16) 
     None
 }
 
+// The first pair x < y of v points, in lexicographic order, that does not stand together as often as it is to, from the
+// counts of one chunk of points after another.
+fn first_bad_pair(rows: &Rows, wanted: Wanted, v: u16, counts: &mut [u32]) -> Option<Pair>
+    requires wanted { IsWanted wanted }
+    requires rows { All IsRow rows.now }
+    requires points { v ≤ WIDTH }
+    requires room { length counts.old ≡ CHUNK_COUNTS }
+    ensures { MatchOption result ((x : ℕ) → x < v → Agree (cover rows.now x) (want wanted x) (x + 1) v) (λ p. IsFirstBad (cover rows.now) (want wanted) v 0 v p) }
+{
+    let mut low = 0;
+    while low < v {
+        let high = if v - low < CHUNK { v } else { low + CHUNK };
+        count_rows(rows, low, high, counts);
+        if let Some(pair) = first_bad_count(counts, wanted, v, low, high) {
+            return Some(pair);
+        }
+        low = high;
+    }
+    None
+}
+
 /// The first pair x < y of v points, in lexicographic order, that does not stand together as often as it is to.
-pub(crate) fn first_bad_pair(
+pub(crate) fn first_bad_pair_of(
     rows: &Rows,
     wanted: Wanted,
     v: u16,
@@ -98,14 +119,5 @@ pub(crate) fn first_bad_pair(
     requires room { length counts.old ≡ LINES * WIDTH }
     ensures { MatchOption result ((x : ℕ) → x < v → Agree (cover rows.now x) (want wanted x) (x + 1) v) (λ p. IsFirstBad (cover rows.now) (want wanted) v 0 v p) }
 {
-    let mut low = 0;
-    while low < v {
-        let high = if v - low < LINES { v } else { low + LINES };
-        count_rows(rows, low, high, counts);
-        if let Some(pair) = first_bad_count(counts, wanted, v, low, high) {
-            return Some(pair);
-        }
-        low = high;
-    }
-    None
+    first_bad_pair(rows, wanted, v, &mut counts[..CHUNK_COUNTS])
 }

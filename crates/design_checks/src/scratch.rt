@@ -7,8 +7,12 @@ use std::alloc::Global;
 
 /// The counts in a line of the table: one for each point of the largest design.
 pub(crate) const WIDTH: usize = TD_K_MAX as usize * TD_N_MAX as usize;
-/// The lines of the table: one for each of so many points that are counted at a time, which are all elements of a group.
+/// The lines of the table: one for each element of the largest group.
 pub(crate) const LINES: u16 = POINTS_MAX;
+/// How many points of a design are counted at a time. Fewer lines than there are keep what is touched small.
+pub(crate) const CHUNK: u16 = TD_N_MAX;
+/// The counts of a chunk.
+pub(crate) const CHUNK_COUNTS: usize = CHUNK as usize * WIDTH;
 
 /// Room for the counts of the checks, which serves any number of them.
 #[derive(Drop)]
