@@ -1,8 +1,7 @@
 -- What a verdict that is yes says of its step.
-use Rattle.std.proofs.Common.{◌≡◌, ◌≢◌, ℕ, ◌+◌, ◌-◌, ◌^◌, ◌≤◌, ◌%◌, ◌==◌, ◌&&◌, All, Bool, length, true, false, Option, Some, None, suc, ap, arith, cond, refl, subst, sym, ◌∙◌}
+use Rattle.std.proofs.Common.{◌≡◌, ◌≢◌, ℕ, ◌+◌, ◌-◌, ◌^◌, ◌≤◌, ◌%◌, ◌==◌, ◌&&◌, All, length, true, Option, Some, None, ap, arith, refl, subst, sym, ◌∙◌}
 use Rattle.std.specs.Prelude.{Err, IfOk, IsTrue, List, Ok, Result, nat_le}
 use Rattle.std.specs.Option.{option_map, option_or}
-use Rattle.std.proofs.Math.Nat.{mul-le-mul_left, mul-le-mul_right}
 use Rattle.std.proofs.lemmas.Bool.{and_parts, cond_both, eqb-true}
 use Rattle.std.proofs.lemmas.Bool.Decides.{nat_tests}
 use Rattle.std.proofs.lemmas.List.Elements.{All-weaker}
@@ -73,9 +72,9 @@ projective_built : (v k : ℕ) (s : Step) → projective_verdict v (k - 1) ≡ S
 unfolding projective_verdict
 projective_built v k s = cond_both (nat_le 3 (k - 1) && has_field (k - 1)) _ _ (λ o. o ≡ Some (Yes s) → IsBuilt s.rule v k s)
     (λ t e.
-      let parts = and_parts (nat_le 3 (k - 1)) (has_field (k - 1)) t in
-      let h = geometry_built Projective point_count v (k - 1) s parts.1 e in
-      subst (λ rule. IsBuilt rule v k s) (sym h.0) (h.1, ap (λ q. q + 1) h.2 ∙ above_two k parts.0))
+    let parts = and_parts (nat_le 3 (k - 1)) (has_field (k - 1)) t in
+    let h = geometry_built Projective point_count v (k - 1) s parts.1 e in
+    subst (λ rule. IsBuilt rule v k s) (sym h.0) (h.1, ap (λ q. q + 1) h.2 ∙ above_two k parts.0))
     (λ _ e. cc)
 
 lines_built : (v k : ℕ) (s : Step) → geometry_verdict v k ≡ Some (Yes s) → IsBuilt s.rule v k s
@@ -89,15 +88,15 @@ triples_built : (v : ℕ) (s : Step) → triple_verdict v ≡ Some (Yes s) → I
 triples_built v s = cond_both (v % 2 == 0 && nat_le 4 v) _ _ (λ o. o ≡ Some (Yes s) → IsBuilt s.rule v 3 s) (λ _ e. cc)
     (λ _. cond_both (v % 6 == 3 && nat_le 9 v) _ _ (λ o. o ≡ Some (Yes s) → IsBuilt s.rule v 3 s)
     (λ t e.
-      let same : step Bose 0 0 0 0 ≡ s = cc in
-      subst (λ s. IsBuilt s.rule v 3 s) same (eqb-true (v % 6) 3 (and_parts (v % 6 == 3) (nat_le 9 v) t).0, refl))
+    let same : step Bose 0 0 0 0 ≡ s = cc in
+    subst (λ s. IsBuilt s.rule v 3 s) same (eqb-true (v % 6) 3 (and_parts (v % 6 == 3) (nat_le 9 v) t).0, refl))
     (λ _ e. cc))
 
 pub is_built : (v k l : ℕ) (s : Step) → chosen (Bibd v k l) ≡ Some (Yes s) → IsBuilt s.rule v k s × (l ≡ 1)
 is_built v k l s = cond_both (k == 3 && l == 1) _ _ (λ o. o ≡ Some (Yes s) → IsBuilt s.rule v k s × (l ≡ 1))
     (λ t e.
-      let parts = and_parts (k == 3) (l == 1) t in
-      (subst (λ n. IsBuilt s.rule v n s) (sym (eqb-true k 3 parts.0)) (triples_built v s e), eqb-true l 1 parts.1))
+    let parts = and_parts (k == 3) (l == 1) t in
+    (subst (λ n. IsBuilt s.rule v n s) (sym (eqb-true k 3 parts.0)) (triples_built v s e), eqb-true l 1 parts.1))
     (λ _. cond_both (l == 1) _ _ (λ o. o ≡ Some (Yes s) → IsBuilt s.rule v k s × (l ≡ 1)) (λ t e. (lines_built v k s e, eqb-true l 1 t)) (λ _ e. cc))
 
 -- the blocks of each step are a design

@@ -1,5 +1,5 @@
 -- The lines of the affine and of the projective geometries over each listed field are designs.
-use Rattle.std.proofs.Common.{List, [], ◌∷◌, ◌++◌, ap, arith, get_or, length, refl, subst, suc, sym, true, zero, ℕ, ◌+◌, ◌<◌, ◌^◌, ◌∙◌, ◌≡◌, ◌≤◌}
+use Rattle.std.proofs.Common.{List, [], ◌∷◌, ◌++◌, ap, arith, length, refl, subst, suc, sym, true, zero, ℕ, ◌+◌, ◌<◌, ◌^◌, ◌∙◌, ◌≡◌, ◌≤◌}
 use Rattle.std.proofs.lemmas.Grind.{get_or_default_zero}
 use Rattle.std.specs.Prelude.{Contains}
 use Rattle.counting.proofs.Ranges.{get_or-list_below, length-list_below}
@@ -63,13 +63,15 @@ module _ (q : ℕ) (listed : has_field q ≡ true) where
       let least = (is_lead q (field_sum q) (field_product q) field n).lead_below x in
       let inverse = field.inverses (lead q n x) (lead_positive q (field_sum q) (field_product q) field n x pos l) least in
       let y = multiple (field_product q) q n inverse.0 x in
-      let found : Contains (points q n) y = contains_point q n y (s.multiples_below inverse.0 x) (lead_one q (field_sum q) (field_product q) field n x inverse.0 inverse.1 inverse.2) in
-      (found.0, record {
-        factor = inverse.0;
-        small = inverse.1;
-        within = found.1;
-        equal = sym found.2 ∙ get_or_default_zero (points q n) found.0 y found.1;
-      })
+      let found : Contains (points q n) y = contains_point q n y (s.multiples_below inverse.0 x) (lead_one q (field_sum q) (field_product q) field n x inverse.0 inverse.1 inverse.2) in (
+        found.0,
+        record {
+          factor = inverse.0;
+          small = inverse.1;
+          within = found.1;
+          equal = sym found.2 ∙ get_or_default_zero (points q n) found.0 y found.1;
+        },
+      )
 
   places_below : (n v : ℕ) → suc v ≤ q ^ n → (places : List ℕ) × ArePlaces (field_product q) q n (suc v) places
   places_below n zero within = (0 ∷ [], places-one (field_product q) q n)

@@ -1,5 +1,5 @@
 -- The numbers of points of geometries, and bounds on them.
-use Rattle.std.proofs.Common.{ap, arith, suc, zero, ℕ, ◌*◌, ◌+◌, ◌^◌, ◌∙◌, ◌≡◌, ◌≤◌, ◌<◌, sym}
+use Rattle.std.proofs.Common.{ap, arith, suc, ℕ, ◌*◌, ◌+◌, ◌^◌, ◌∙◌, ◌≡◌, ◌≤◌, sym}
 use Rattle.std.proofs.Math.Nat.{mul-le-mul_left, mul-le-mul_right, pow-suc, pow-zero}
 use Rattle.counting.proofs.Counts.{sum_below-none, sum_below-suc}
 use Rattle.counting.specs.Sums.{sum_below}

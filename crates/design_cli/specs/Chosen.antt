@@ -4,12 +4,12 @@ use Rattle.std.specs.Option.{option_map, option_or}
 use Rattle.design_base.specs.Canonical.{canonical}
 use Rattle.design_base.specs.Fields.{has_field}
 use Rattle.design_base.specs.declared.query.Query.{Query}
-use Rattle.design_base.specs.declared.query.Query.TheVariants.{Td, Df, Bibd, Gdd, Pbd}
+use Rattle.design_base.specs.declared.query.Query.TheVariants.{Bibd}
 use Rattle.design_base.specs.declared.rule.Rule.{Rule}
 use Rattle.design_base.specs.declared.rule.Rule.TheVariants.{Bose, Affine, Projective}
 use Rattle.design_base.specs.declared.verdict.Criterion.TheVariants.{Replication}
 use Rattle.design_base.specs.declared.verdict.Verdict.{Verdict}
-use Rattle.design_base.specs.declared.verdict.Verdict.TheVariants.{Yes, No, Unknown}
+use Rattle.design_base.specs.declared.verdict.Verdict.TheVariants.{Yes, No}
 use Rattle.design_base.specs.Meets.{Meets}
 use Rattle.design_base.specs.Steps.{Step, step}
 use Rattle.spaces.specs.Lines.{affine_lines, projective_lines}

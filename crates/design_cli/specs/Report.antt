@@ -5,14 +5,14 @@ use Rattle.std.specs.Option.{option_map}
 use Rattle.counting.specs.Sorting.{sort_by}
 use Rattle.design_base.specs.declared.limits.TheConstants.{INPUT_MAX}
 use Rattle.design_base.specs.declared.query.Query.{Query}
-use Rattle.design_base.specs.declared.query.Query.TheVariants.{Td, Df, Bibd, Gdd, Pbd}
+use Rattle.design_base.specs.declared.query.Query.TheVariants.{Df}
 use Rattle.design_base.specs.Meets.{Meets}
 use Rattle.design_base.specs.Steps.{Step}
 use Rattle.design_base.specs.declared.verdict.Criterion.{Criterion}
 use Rattle.design_base.specs.declared.verdict.Verdict.{Verdict}
 use Rattle.design_base.specs.declared.verdict.Verdict.TheVariants.{Yes as YesVerdict, No as NoVerdict, Unknown}
 use Rattle.design_lines.specs.declared.command.Command.{Command}
-use Rattle.design_lines.specs.declared.command.Command.TheVariants.{On, Replay, Batch, Table}
+use Rattle.design_lines.specs.declared.command.Command.TheVariants.{On}
 use Rattle.design_lines.specs.declared.command.Reason.{Reason}
 use Rattle.design_lines.specs.declared.command.Verb.{Verb}
 use Rattle.design_lines.specs.declared.command.Verb.TheVariants.{Build, Check}
