@@ -45,7 +45,7 @@ silent ending = record { lines = []; ending = ending }
 
 -- the verdict yes, its derivation, and the blocks that the derivation gives
 abbrev pub yes_report : Query → Step → Report
-yes_report q step = record { lines = head_lines q step (length (blocks_at q)) ++ map row_line (blocks_at q); ending = Yes }
+yes_report q step = record { lines = head_lines q step (length (blocks_at q step)) ++ map row_line (blocks_at q step); ending = Yes }
 
 -- the verdict no
 abbrev pub no_report : Query → Criterion → Report

@@ -2,12 +2,13 @@
 ghost use Rattle.std.specs.Prelude.{◌≡◌, ◌≢◌, ◌≤◌, ◌↔◌, All, IfOk, IsTrue, Some, length};
 ghost use Rattle.design_base.specs.Limits.{in_bounds};
 ghost use Rattle.design_base.specs.declared.limits.TheConstants.{POINTS_MAX};
-ghost use Rattle.design_cli.specs.Chosen.{triple_verdict as verdict_of_triples, chosen as chosen_verdict, blocks_at, IsYes};
+ghost use Rattle.design_cli.specs.Chosen.{triple_verdict as verdict_of_triples, chosen as chosen_verdict, blocks_at};
 ghost use Rattle.design_cli.specs.Endings.{status_of};
 ghost use Rattle.design_cli.specs.Report.{build_report, no_report, yes_report};
 ghost use Rattle.design_cli.specs.Runs.{EndsWith, HasFault, IsAnswer, IsSilent};
 
 use crate::ending::Ending;
+use crate::geometries::{affine_blocks, geometry_verdict, projective_blocks};
 use crate::lines::{write_design, write_verdict};
 use crate::status::Status;
 use design_base::{Criterion, Memory, Query, Rule, Step, Verdict};
@@ -30,28 +31,36 @@ fn triple_verdict(v: u16) -> Option<Verdict>
 }
 
 // The verdict on a question, where it is known yet.
+#[tactic(auto, unfolding(design_base::specs::Limits::in_bounds))]
 fn chosen(query: &Query) -> Option<Verdict>
+    requires { IsTrue (in_bounds query.now) }
     ensures { result ≡ chosen_verdict query.now }
 {
     match *query {
         Query::Bibd { v, k: 3, l: 1 } => triple_verdict(v),
+        Query::Bibd { v, k, l: 1 } => geometry_verdict(v, k),
         _ => None,
     }
 }
 
 // The blocks of a question whose verdict is yes.
 #[tactic(auto, using(triple_systems::proofs::Blocks::block_sizes), unfolding(design_base::specs::Limits::in_bounds))]
-fn blocks_of(alloc: Global, query: &Query) -> Result<Rows, Memory>
+fn blocks_of(alloc: Global, query: &Query, step: &Step) -> Result<Rows, Memory>
     requires bounds { IsTrue (in_bounds query.now) }
-    requires yes { IsYes (chosen_verdict query.now) }
-    ensures blocks { IfOk result (λ rows. rows ≡ blocks_at query.now) }
+    requires yes { chosen_verdict query.now ≡ Some (Verdict.Yes step.now) }
+    ensures blocks { IfOk result (λ rows. rows ≡ blocks_at query.now step.now) }
     ensures printable { IfOk result (λ rows. All (λ row. length row ≤ POINTS_MAX) rows) }
 {
     match *query {
-        Query::Bibd { v, .. } => {
-            let blocks = bose(alloc, v)?;
-            Ok(blocks)
-        }
+        Query::Bibd { v, .. } => match step.rule {
+            Rule::Bose => {
+                let blocks = bose(alloc, v)?;
+                Ok(blocks)
+            }
+            Rule::Affine => affine_blocks(alloc, step.a, step.b),
+            Rule::Projective => projective_blocks(alloc, step.a, step.b),
+            _ => unreachable!(),
+        },
         _ => unreachable!(),
     }
 }
@@ -66,7 +75,7 @@ fn answer_yes<K: Sink>(alloc: Global, query: &Query, step: &Step, out: &mut K) -
     ensures answered { IsAnswer result }
     ensures no_read { result ≢ Ending.ReadFault }
 {
-    let Ok(blocks) = blocks_of(alloc, query) else {
+    let Ok(blocks) = blocks_of(alloc, query, step) else {
         return Ending::NoMemory;
     };
     match write_design(out, query, step, &blocks) {

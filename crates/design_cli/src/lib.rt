@@ -6,6 +6,7 @@ mod blocks;
 mod building;
 mod checking;
 mod ending;
+mod geometries;
 mod lines;
 mod status;
 

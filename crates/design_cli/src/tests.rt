@@ -81,19 +81,22 @@ fn words_are_refused(rt: HostRuntime) -> Result<(), Fail> {
 
 #[test]
 fn designs_are_built(rt: HostRuntime) -> Result<(), Fail> {
-    let verdict = "bibd 9 3 1 yes bose\n";
-    let fault = "write fault\n";
-    for (failing, output, message, status) in [(1, "", fault, 74), (2, verdict, fault, 74)] {
+    for (words, failing, output) in [
+        ("build bibd 9 3 1", 1, ""),
+        ("build bibd 9 3 1", 2, "bibd 9 3 1 yes bose\n"),
+        ("build plane 3", 2, "bibd 13 4 1 yes projective 3 2\n"),
+        ("build bibd 16 4 1", 2, "bibd 16 4 1 yes affine 4 2\n"),
+    ] {
         let row = Case {
-            words: "build bibd 9 3 1",
+            words,
             input: "",
             failing,
             output,
-            message,
-            status,
+            message: "write fault\n",
+            status: 74,
         };
         let right = holds(rt.alloc(), &row)?;
-        assert!(rt; right, "where call {failing} fails");
+        assert!(rt; right, "at {words}, where call {failing} fails");
     }
     let no = told("build bibd 8 3 1", "", "bibd 8 3 1 no replication\n", "", 1);
     assert!(rt; holds(rt.alloc(), &no)?);
