@@ -7,7 +7,8 @@ pub enum Finding {
     /// design, or are too few or too many.
     BadBlock { index: u32 },
     /// All blocks are good, and x < y is the first pair of points, in lexicographic order, that stands together in another
-    /// number of blocks than it is to; `count` is that number.
+    /// number of blocks than it is to; `count` is that number. Of base blocks, x is 0, and y the first element of the group
+    /// that is another number of differences than it is to be.
     BadPair { x: u16, y: u16, count: u32 },
 }
 

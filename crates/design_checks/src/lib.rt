@@ -1,5 +1,5 @@
-//! Block lists checked against the definitions of designs: the first bad block, or the first bad pair of points, or that
-//! the list is such a design.
+//! Block lists checked against the definitions of designs, and base blocks against that of difference families: the first
+//! bad block, or the first bad pair of points, or that the list is such a design.
 #![tactic(auto)]
 
 mod blocks;

@@ -1,7 +1,6 @@
-use Rattle.std.proofs.Common.{sym, ◌∙◌, ◌≡◌}
+use Rattle.std.proofs.Common.{sym, ◌∙◌}
 use Rattle.design_base.specs.declared.query.Query.TheVariants.{Df}
 use Rattle.design_checks.proofs.Meeting.{family_found, found_meets, group_asked}
-use Rattle.design_checks.specs.Findings.{finding}
 use Rattle.design_checks.proofs.checks.check_df.Goals as goal
 
 pub check_family-requires-clause-group : goal.check_family-requires-clause-group

@@ -1,4 +1,4 @@
-use Rattle.std.proofs.Common.{arith, inl, inr, sym, ◌+◌, ◌<◌, ◌∙◌, ◌≡◌, ◌≤◌, ap}
+use Rattle.std.proofs.Common.{arith, inl, inr, sym, ◌∙◌, ◌≡◌, ap}
 use Rattle.std.proofs.lemmas.Bool.{cases_eq}
 use Rattle.design_base.specs.Blocks.{differences}
 use Rattle.design_base.specs.Meets.{group_add}

@@ -1,4 +1,4 @@
-use Rattle.std.proofs.Common.{ap, arith, sym, ℕ, ◌∙◌}
+use Rattle.std.proofs.Common.{ap, arith, sym, ◌∙◌}
 use Rattle.counting.proofs.Counts.{sum_below-none}
 use Rattle.counting.specs.Sums.{sum_below}
 use Rattle.design_base.specs.Blocks.{cover}

@@ -1,4 +1,4 @@
-use Rattle.std.proofs.Common.{ap, arith, get_or, sym, ◌*◌, ◌+◌, ◌-◌, ◌∙◌, ◌≡◌}
+use Rattle.std.proofs.Common.{ap, arith, get_or, ◌*◌, ◌+◌, ◌∙◌, ◌≡◌}
 use Rattle.design_base.proofs.Cover.{cover-turn}
 use Rattle.design_checks.specs.Counts.{cell}
 use Rattle.design_checks.specs.declared.scratch.TheConstants.{WIDTH}
