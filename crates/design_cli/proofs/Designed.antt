@@ -3,7 +3,8 @@ use Rattle.std.proofs.Common.{◌≡◌, ℕ, Option, Some, None, refl}
 use Rattle.design_base.specs.declared.query.Query.TheVariants.{Td, Df, Bibd, Gdd, Pbd}
 use Rattle.design_base.specs.declared.verdict.Verdict.{Verdict}
 use Rattle.design_base.specs.declared.verdict.Verdict.TheVariants.{Yes, No, Unknown}
-use Rattle.design_checks.proofs.Meeting.{bibd_valid, gdd_valid, pbd_valid, td_valid}
+use Rattle.design_checks.proofs.Meeting.{found_meets}
+use Rattle.design_checks.specs.Findings.{finding}
 use Rattle.design_cli.proofs.Choices.{yes_designed}
 use Rattle.design_cli.specs.Report.{EachValidIsDesign}
 use Rattle.design_cli.specs.Chosen.{chosen, IsDesigned, EachYesIsDesigned}
@@ -22,8 +23,4 @@ each_yes_is_designed (Gdd k g u) = tt
 each_yes_is_designed (Pbd v s) = tt
 
 pub each_valid_is_design : EachValidIsDesign
-each_valid_is_design (Td k n) B checked = td_valid B k n
-each_valid_is_design (Df group v k l) B checked = cc
-each_valid_is_design (Bibd v k l) B checked = bibd_valid B v k l
-each_valid_is_design (Gdd k g u) B checked = gdd_valid B k g u
-each_valid_is_design (Pbd v s) B checked = pbd_valid B v s
+each_valid_is_design q B = found_meets q B (finding q B) refl

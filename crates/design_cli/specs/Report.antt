@@ -5,7 +5,6 @@ use Rattle.std.specs.Option.{option_map}
 use Rattle.counting.specs.Sorting.{sort_by}
 use Rattle.design_base.specs.declared.limits.TheConstants.{INPUT_MAX}
 use Rattle.design_base.specs.declared.query.Query.{Query}
-use Rattle.design_base.specs.declared.query.Query.TheVariants.{Df}
 use Rattle.design_base.specs.Meets.{Meets}
 use Rattle.design_base.specs.Steps.{Step}
 use Rattle.design_base.specs.declared.verdict.Criterion.{Criterion}
@@ -78,15 +77,10 @@ abbrev pub check_report : Query → List ℕ → Report
 check_report q input =
     if nat_le (length input) INPUT_MAX then text_report q (block_text input) else silent (BadInput (line_at input INPUT_MAX))
 
--- the designs whose blocks are checked yet
-abbrev pub is_checked : Query → Bool
-is_checked (Df group v k l) = false
-is_checked q = true
-
 -- the answer to a verb on a question, where the input is told or not asked for
 abbrev pub question_report : Verb → Query → Shape → Option (List ℕ) → Option Report
 question_report Build q Blocks input = Some (build_report q (chosen q))
-question_report Check q Blocks input = if is_checked q then option_map (check_report q) input else Some (silent NotBuilt)
+question_report Check q Blocks input = option_map (check_report q) input
 question_report verb q shape input = Some (silent NotBuilt)
 
 -- the answer to a command
@@ -97,7 +91,7 @@ command_report (Ok command) input = Some (silent NotBuilt)
 
 -- whether the command reads the input
 abbrev pub reads_input : Result Command Reason → Bool
-reads_input (Ok (On Check q Blocks)) = is_checked q
+reads_input (Ok (On Check q Blocks)) = true
 reads_input command = false
 
 -- the command of the words
@@ -115,4 +109,4 @@ IsRefused report = IsSomeAnd report (λ r. status_of r.ending ≡ Usage)
 
 -- blocks are found valid exactly where they are such a design
 abbrev pub EachValidIsDesign : Type 0
-EachValidIsDesign = (q : Query) (B : List (List ℕ)) → is_checked q ≡ true → (finding q B ≡ Valid) ↔ Meets q B
+EachValidIsDesign = (q : Query) (B : List (List ℕ)) → (finding q B ≡ Valid) ↔ Meets q B

@@ -7,7 +7,7 @@ ghost use Rattle.design_cli.specs.Report.{EachValidIsDesign, IsRefused, command_
 ghost use Rattle.design_cli.specs.Runs.{EndsAs, EndsWith, HasFault, HasReadFault, IsSilent, Says, message_at};
 
 use crate::building::answer_build;
-use crate::checking::{answer_check, is_checked};
+use crate::checking::answer_check;
 use crate::ending::Ending;
 use crate::status::Status;
 use design_io::{Sink, Source, write_whole};
@@ -46,7 +46,7 @@ fn answer<S: Source, K: Sink>(alloc: Global, words: &[String], input: &mut S, ou
                 query,
                 shape: Shape::Blocks,
             },
-        ) if is_checked(&query) => answer_check(alloc, &query, input, out),
+        ) => answer_check(alloc, &query, input, out),
         Ok(_) => Ending::NotBuilt,
     }
 }

@@ -4,7 +4,7 @@ ghost use Rattle.design_base.specs.Limits.{in_bounds};
 ghost use Rattle.design_base.specs.declared.limits.TheConstants.{INPUT_MAX};
 ghost use Rattle.design_io.specs.Faults.{Rose};
 ghost use Rattle.design_checks.specs.Findings.{finding as finding_of};
-ghost use Rattle.design_cli.specs.Report.{check_report, found_report, is_checked as has_check, text_report};
+ghost use Rattle.design_cli.specs.Report.{check_report, found_report, text_report};
 ghost use Rattle.design_cli.specs.BlockText.{block_text};
 ghost use Rattle.design_cli.specs.Endings.{ending_at};
 ghost use Rattle.design_cli.specs.Runs.{EndsWith, HasFault, HasReadFault, IsAnswer, IsSilent};
@@ -12,34 +12,27 @@ ghost use Rattle.design_cli.specs.Runs.{EndsWith, HasFault, HasReadFault, IsAnsw
 use crate::blocks::{BlockTextEnd, read_blocks};
 use crate::ending::Ending;
 use crate::lines::write_finding;
-use design_base::{INPUT_MAX, Query};
-use design_checks::{Finding, Scratch, check_bibd, check_gdd, check_pbd, check_td};
+use design_base::{INPUT_MAX, Memory, Query};
+use design_checks::{Finding, Scratch, check};
 use design_io::{Failed, ReadEnd, Sink, Source, read_all};
+use field_tables::Fields;
 use incidence::Rows;
 use std::alloc::Global;
 
-/// Whether the blocks of such a design are checked yet.
-pub fn is_checked(query: &Query) -> bool
-    ensures { result ≡ has_check query.now }
-{
-    match query {
-        Query::Df { .. } => false,
-        _ => true,
-    }
+// What a check needs: the fields, and room for its counts.
+#[derive(Drop)]
+struct Tools {
+    fields: Fields,
+    scratch: Scratch,
 }
 
-// What the check of the blocks finds.
-fn check(query: &Query, rows: &Rows, scratch: &mut Scratch) -> Finding
-    requires bounds { in_bounds query.now ≡ true }
-    requires kind { has_check query.now ≡ true }
-    ensures { result ≡ finding_of query.now rows.now }
-{
-    match *query {
-        Query::Td { k, n } => check_td(rows, k, n, scratch),
-        Query::Df { .. } => unreachable!(),
-        Query::Bibd { v, k, l } => check_bibd(rows, v, k, l, scratch),
-        Query::Gdd { k, g, u } => check_gdd(rows, k, g, u, scratch),
-        Query::Pbd { v, s } => check_pbd(rows, v, s, scratch),
+impl Tools {
+    // Takes the memory for them.
+    fn open(alloc: Global) -> Result<Tools, Memory> {
+        Ok(Tools {
+            fields: Fields::open(alloc)?,
+            scratch: Scratch::new(alloc)?,
+        })
     }
 }
 
@@ -64,11 +57,10 @@ fn answer_text<K: Sink>(
     alloc: Global,
     query: &Query,
     text: &[u8],
-    scratch: &mut Scratch,
+    tools: &mut Tools,
     out: &mut K,
 ) -> Ending
     requires bounds { in_bounds query.now ≡ true }
-    requires kind { has_check query.now ≡ true }
     requires short { length text.now ≤ INPUT_MAX }
     ensures ends { EndsWith (text_report query.now (block_text text.now)) result (K.held out.old) (K.held out.new) }
     ensures cause { HasFault result (K.faults out.old) (K.faults out.new) }
@@ -81,7 +73,7 @@ fn answer_text<K: Sink>(
         Err(BlockTextEnd::Memory) => return Ending::NoMemory,
     };
     rows.sort_each();
-    let finding = check(query, &rows, scratch);
+    let finding = check(query, &rows, &tools.fields, &mut tools.scratch);
     answer_finding(query, finding, out)
 }
 
@@ -104,20 +96,19 @@ pub fn answer_check<S: Source, K: Sink>(
     input: &mut S,
     out: &mut K,
 ) -> Ending
-    requires bounds { in_bounds query.now ≡ true }
-    requires kind { has_check query.now ≡ true }
+    requires { in_bounds query.now ≡ true }
     ensures ends { IfSome (S.left input.old) (λ text. EndsWith (check_report query.now text) result (K.held out.old) (K.held out.new)) }
     ensures cause { HasFault result (K.faults out.old) (K.faults out.new) }
     ensures read_cause { HasReadFault result (S.faults input.old) (S.faults input.new) }
     ensures silent { IsSilent result (K.held out.old) (K.held out.new) }
     ensures answered { IsAnswer result }
 {
-    let Ok(mut scratch) = Scratch::new(alloc) else {
+    let Ok(mut tools) = Tools::open(alloc) else {
         return Ending::NoMemory;
     };
     let text = match read_all(alloc, input, INPUT_MAX) {
         Ok(text) => text,
         Err(end) => return unread_ending(end),
     };
-    answer_text(alloc, query, &text, &mut scratch, out)
+    answer_text(alloc, query, &text, &mut tools, out)
 }

@@ -71,7 +71,7 @@ fn words_are_refused(rt: HostRuntime) -> Result<(), Fail> {
         ("ask td 3 4 5", "usage: surplus word at 5\n"),
         ("check mols 4 65534", "usage: out of bounds\n"),
         ("build bibd 7 3 1", "usage: not built\n"),
-        ("check df z 7 3 1", "usage: not built\n"),
+        ("check oa 3 2", "usage: not built\n"),
     ] {
         let right = holds(rt.alloc(), &told(words, FANO, "", message, 64))?;
         assert!(rt; right, "at {words}");
@@ -127,6 +127,24 @@ fn blocks_are_checked(rt: HostRuntime) -> Result<(), Fail> {
             &told("check bibd 7 3 1", input, output, message, status),
         )?;
         assert!(rt; right, "at {input}");
+    }
+    Ok(())
+}
+
+#[test]
+fn difference_families_are_checked(rt: HostRuntime) -> Result<(), Fail> {
+    for (words, input, output, status) in [
+        ("check df z 7 3 1", "0 1 3\n", "df z 7 3 1 valid\n", 0),
+        ("check df f 7 3 1", "1 2 4\n", "df f 7 3 1 valid\n", 0),
+        (
+            "check df z 7 3 1",
+            "0 1 2\n",
+            "df z 7 3 1 invalid pair 0 1 covered 2\n",
+            1,
+        ),
+    ] {
+        let right = holds(rt.alloc(), &told(words, input, output, "", status))?;
+        assert!(rt; right, "at {words}, {input}");
     }
     Ok(())
 }
