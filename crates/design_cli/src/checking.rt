@@ -52,25 +52,24 @@ fn answer_finding<K: Sink>(query: &Query, finding: Finding, out: &mut K) -> Endi
     }
 }
 
-// Checks the blocks of a text, the numbers of each in increasing order.
-fn answer_text<K: Sink>(
-    alloc: Global,
-    query: &Query,
-    text: &[u8],
-    tools: &mut Tools,
-    out: &mut K,
-) -> Ending
+// Checks the blocks of a text, the numbers of each in increasing order. The text goes before the tools come, so that the
+// memory for both is never held at once.
+fn answer_text<K: Sink>(alloc: Global, query: &Query, text: Vec<u8>, out: &mut K) -> Ending
     requires bounds { in_bounds query.now ≡ true }
-    requires short { length text.now ≤ INPUT_MAX }
-    ensures ends { EndsWith (text_report query.now (block_text text.now)) result (K.held out.old) (K.held out.new) }
+    requires short { length text.items ≤ INPUT_MAX }
+    ensures ends { EndsWith (text_report query.now (block_text text.items)) result (K.held out.old) (K.held out.new) }
     ensures cause { HasFault result (K.faults out.old) (K.faults out.new) }
     ensures answered { IsAnswer result }
     ensures no_read { result ≢ Ending.ReadFault }
 {
-    let mut rows = match read_blocks(alloc, text) {
+    let mut rows = match read_blocks(alloc, &text) {
         Ok(rows) => rows,
         Err(BlockTextEnd::BadLine { line }) => return Ending::BadInput { line },
         Err(BlockTextEnd::Memory) => return Ending::NoMemory,
+    };
+    drop(text);
+    let Ok(mut tools) = Tools::open(alloc) else {
+        return Ending::NoMemory;
     };
     rows.sort_each();
     let finding = check(query, &rows, &tools.fields, &mut tools.scratch);
@@ -103,12 +102,9 @@ pub fn answer_check<S: Source, K: Sink>(
     ensures silent { IsSilent result (K.held out.old) (K.held out.new) }
     ensures answered { IsAnswer result }
 {
-    let Ok(mut tools) = Tools::open(alloc) else {
-        return Ending::NoMemory;
-    };
     let text = match read_all(alloc, input, INPUT_MAX) {
         Ok(text) => text,
         Err(end) => return unread_ending(end),
     };
-    answer_text(alloc, query, &text, &mut tools, out)
+    answer_text(alloc, query, text, out)
 }
