@@ -43,6 +43,53 @@ fn holds(alloc: Global, row: &Case) -> Result<bool, AllocError> {
 
 const FANO: &str = "0 1 3\n1 2 4\n2 3 5\n3 4 6\n0 4 5\n1 5 6\n0 2 6\n";
 
+const PLANE_3: &str = "bibd 13 4 1 yes projective 3 2
+derivation 1
+1 bibd 13 4 1 projective 3 2
+end 1
+blocks 13
+0 1 2 3
+0 4 5 9
+0 6 7 12
+0 8 10 11
+1 4 6 10
+1 5 7 8
+1 9 11 12
+2 4 7 11
+2 5 10 12
+2 6 8 9
+3 4 8 12
+3 5 6 11
+3 7 9 10
+";
+
+const AFFINE_16: &str = "bibd 16 4 1 yes affine 4 2
+derivation 1
+1 bibd 16 4 1 affine 4 2
+end 1
+blocks 20
+0 1 2 3
+0 4 8 12
+0 5 10 15
+0 6 11 13
+0 7 9 14
+1 4 11 14
+1 5 9 13
+1 6 8 15
+1 7 10 12
+2 4 9 15
+2 5 11 12
+2 6 10 14
+2 7 8 13
+3 4 10 13
+3 5 8 14
+3 6 9 12
+3 7 11 15
+4 5 6 7
+8 9 10 11
+12 13 14 15
+";
+
 fn told(
     words: &'static str,
     input: &'static str,
@@ -100,6 +147,15 @@ fn designs_are_built(rt: HostRuntime) -> Result<(), Fail> {
     }
     let no = told("build bibd 8 3 1", "", "bibd 8 3 1 no replication\n", "", 1);
     assert!(rt; holds(rt.alloc(), &no)?);
+    Ok(())
+}
+
+#[test]
+fn geometries_are_built(rt: HostRuntime) -> Result<(), Fail> {
+    for (words, output) in [("build plane 3", PLANE_3), ("build bibd 16 4 1", AFFINE_16)] {
+        let right = holds(rt.alloc(), &told(words, "", output, "", 0))?;
+        assert!(rt; right, "at {words}");
+    }
     Ok(())
 }
 
