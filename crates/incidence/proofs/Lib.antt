@@ -1,3 +1,4 @@
+pub mod Fronts
 pub mod Ordered
 pub mod Packing
 pub mod Pieces

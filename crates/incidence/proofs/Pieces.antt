@@ -14,7 +14,7 @@ rows_from-append start [] vs numbers middle are = ap (λ s. rows_from s vs numbe
 rows_from-append start (a ∷ us) vs numbers middle are = ap (λ r. slice_range numbers start a ∷ r) (rows_from-append a us vs numbers middle are.1)
 
 -- rows depend on the numbers up to their end
-rows_from_front : (start : ℕ) (ends : List ℕ) (total : ℕ) (ns ms : List ℕ) → AreEnds start ends total → take total ns ≡ take total ms → rows_from start ends ns ≡ rows_from start ends ms
+pub rows_from_front : (start : ℕ) (ends : List ℕ) (total : ℕ) (ns ms : List ℕ) → AreEnds start ends total → take total ns ≡ take total ms → rows_from start ends ns ≡ rows_from start ends ms
 rows_from_front start [] total ns ms are same = refl
 rows_from_front start (end ∷ ends) total ns ms are same =
     let le = start_within end ends total are.1 in

@@ -1,5 +1,5 @@
 //! A list of lists of numbers, kept as the numbers one after another and the place where each list ends.
-ghost use Rattle.std.specs.Prelude.{◌≡◌, ◌+◌, ◌<◌, ◌≤◌, ◌↔◌, [], ◌∷◌, ◌++◌, ◌&&◌, IfOk, IsTrue, OnErr, OnOk, Some, length, map, nat_le, slice_get, slice_index};
+ghost use Rattle.std.specs.Prelude.{◌≡◌, ◌+◌, ◌<◌, ◌≤◌, ◌↔◌, [], ◌∷◌, ◌++◌, ◌&&◌, IfOk, IsTrue, OnErr, OnOk, Some, length, map, nat_le, slice_get, slice_index, take};
 ghost use Rattle.counting.specs.Sorting.{sort_by};
 ghost use Rattle.design_base.specs.Blocks.{cover as cover_of, holds};
 ghost use Rattle.design_base.specs.Canonical.{canonical as canonical_form};
@@ -132,6 +132,18 @@ impl Rows {
         self.numbers.extend_from_slice(row)?;
         self.ends.push(self.numbers.len() as u32).unwrap();
         Ok(())
+    }
+
+    /// Keeps the first `count` rows, or all where there are not more. The memory stays taken.
+    #[tactic(auto, using(crate::proofs::Fronts::front_all))]
+    pub fn truncate(&mut self, count: usize)
+        ensures { self.new ≡ take count self.old }
+    {
+        if count < self.ends.len() {
+            let numbers = start_of(&self.ends, count);
+            self.numbers.truncate(numbers);
+            self.ends.truncate(count);
+        }
     }
 
     /// Puts each row in increasing order. The order of the rows stays.

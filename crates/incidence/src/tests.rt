@@ -25,6 +25,21 @@ fn rows_are_pushed(rt: HostRuntime) -> Result<(), Fail> {
 }
 
 #[test]
+fn rows_are_given_up(rt: HostRuntime) -> Result<(), Fail> {
+    let list: [&[u16]; 4] = [&[5, 1], &[], &[2], &[7, 3, 9]];
+    let mut rows = pack(rt.alloc(), &list, 6)?;
+    rows.truncate(5);
+    assert!(rt; are(&rows, &list));
+    rows.truncate(3);
+    assert!(rt; are(&rows, &list[..3]));
+    rows.push_row(&[4])?;
+    assert!(rt; are(&rows, &[&[5, 1], &[], &[2], &[4]]));
+    rows.truncate(0);
+    assert!(rt; rows.is_empty());
+    Ok(())
+}
+
+#[test]
 fn rows_have_a_canonical_form(rt: HostRuntime) -> Result<(), Fail> {
     let list: [&[u16]; 6] = [&[5, 1, 3], &[2, 0], &[], &[10, 9], &[3, 5, 1], &[2, 0, 7]];
     let rows = pack(rt.alloc(), &list, 13)?;
