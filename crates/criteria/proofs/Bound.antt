@@ -26,6 +26,10 @@ at_most_one (suc k) p apart = elim (cases_Bool (p k)) [
     both : p k ≡ false → p k ≡ true → ⊥
     both e f = cc
 
+-- in how many of k columns a row agrees with the first
+unfoldable pub shared_columns : ℕ → List ℕ → List ℕ → ℕ
+shared_columns k first r = sum_below k (λ j. one (get_or r j 0 == get_or first j 0))
+
 -- count the places where the rows agree with the first row: n in each column, and no other row has two of them
 module _ (k n : ℕ) (first : List ℕ) (R : List (List ℕ)) (oa : IsOa (first ∷ R) k n) (two : 2 ≤ k) where
   row : IsRow k n first
@@ -52,11 +56,7 @@ module _ (k n : ℕ) (first : List ℕ) (R : List (List ℕ)) (oa : IsOa (first 
         | inr ne ↦ sum_below-zero n _ (λ b lb. one-false _ (λ t. ne (both_equal (get_or r j 0) (get_or r i 0) a b t).0)) ∙ sym (one-false _ (λ t. ne (eqb-true (get_or r j 0) a t)))
       ]
 
-  -- in how many columns a row agrees with the first
-  shared_columns : List ℕ → ℕ
-  shared_columns r = sum_below k (λ j. one (get_or r j 0 == get_or first j 0))
-
-  in_all_columns : sum_by shared_columns (first ∷ R) ≡ k * n
+  pub in_all_columns : sum_by (shared_columns k first) (first ∷ R) ≡ k * n
   unfolding shared_columns
   in_all_columns = sum_by-sum_below (λ j r. one (get_or r j 0 == get_or first j 0)) k (first ∷ R)
       ∙ sum_below-same k _ (λ j. n) (λ j l. elim (cases_eq j 0) [
@@ -64,11 +64,11 @@ module _ (k n : ℕ) (first : List ℕ) (R : List (List ℕ)) (oa : IsOa (first 
         | inr ne ↦ in_column j 0 (get_or first j 0) ne l (omega arith) (row.below j 0 (omega (arith, row.size)))
       ]) ∙ sum_below-const k n
 
-  of_the_first : shared_columns first ≡ k
+  pub of_the_first : shared_columns k first first ≡ k
   unfolding shared_columns
   of_the_first = sum_below-same k _ (λ j. 1) (λ j l. one-true _ (eq-eqb (get_or first j 0) (get_or first j 0) refl)) ∙ sum_below-const k 1 ∙ omega arith
 
-  of_the_others : All (λ r. shared_columns r ≤ 1) R
+  of_the_others : All (λ r. shared_columns k first r ≤ 1) R
   unfolding shared_columns
   of_the_others m d l = at_most_one k (λ j. get_or (get_or R m d) j 0 == get_or first j 0) (λ i j w h e f.
       omega (
@@ -81,7 +81,7 @@ module _ (k n : ℕ) (first : List ℕ) (R : List (List ℕ)) (oa : IsOa (first 
       ))
 
   counted : k * n + 1 ≤ k + n * n
-  counted = omega (arith, in_all_columns, sum_by-cons shared_columns first R, of_the_first, sum_by-le shared_columns 1 R of_the_others, oa.count)
+  counted = omega (arith, in_all_columns, sum_by-cons (shared_columns k first) first R, of_the_first, sum_by-le (shared_columns k first) 1 R of_the_others, oa.count)
 
 cancelled : (k n : ℕ) → 2 ≤ n → k * n + 1 ≤ k + n * n → k ≤ n + 1
 cancelled k (suc (suc n)) two h = elim (cases_lt (suc (suc n) + 1) k) [

@@ -8,7 +8,9 @@ use design_base::{Memory, PACKED_MAX, TD_K_MAX, TD_N_MAX};
 use incidence::Rows;
 use std::alloc::Global;
 
-// An empty list with room for the `n * n` blocks of `k` groups of `n` points.
+/// An empty list with room for the `n * n` blocks of a transversal design with `k` groups of `n` points.
+///
+/// `k` is at most `TD_K_MAX` and `n` at most `TD_N_MAX`. The answer is `Memory` only for want of memory.
 pub fn with_room(alloc: Global, k: u16, n: u16) -> Result<Rows, Memory>
     requires groups { k ≤ TD_K_MAX }
     requires points { n ≤ TD_N_MAX }
@@ -20,7 +22,9 @@ pub fn with_room(alloc: Global, k: u16, n: u16) -> Result<Rows, Memory>
     Ok(rows)
 }
 
-// Appends the block of a row of `k` symbols below `n`: its entry in column `j` is a point of group `j`.
+/// Appends the block of a row of `k` symbols below `n`: its entry in column `j` is a point of group `j`.
+///
+/// `k` is at most `TD_K_MAX` and `n` at most `TD_N_MAX`. After `Memory` the list is as before.
 #[tactic(auto, using(crate::proofs::Steps::row_block_none, crate::proofs::Steps::row_block_next, crate::proofs::Steps::blocks_of_row))]
 pub fn push_block(rows: &mut Rows, k: u16, n: u16, row: &[u16]) -> Result<(), Memory>
     requires row { IsRow k n row.now }
@@ -37,7 +41,9 @@ pub fn push_block(rows: &mut Rows, k: u16, n: u16, row: &[u16]) -> Result<(), Me
     rows.push_row(&block[..k as usize])
 }
 
-// The entry in column `j` of the row of a block, where groups have `n` points.
+/// The entry in column `j` of the row of a block, where groups have `n` points.
+///
+/// `j` is below the length of the block, and `n` is at least 1.
 #[tactic(auto, unfolding(crate::specs::Constructions::row_of_block))]
 pub fn symbol(block: &[u16], j: usize, n: u16) -> u16
     requires column { j < length block.now }

@@ -1,14 +1,8 @@
-use Rattle.std.proofs.Common.{rules, subst}
+use Rattle.std.proofs.Common.{ap, subst, sym, ◌∙◌}
 use Rattle.std.specs.Prelude.{IsSome}
-use Rattle.counting.specs.Search.{first_in}
-use Rattle.design_base.specs.Limits.{in_bounds}
-use Rattle.criteria.specs.Criteria.{reasons, reason_of}
+use Rattle.criteria.specs.Criteria.{criterion_of}
 use Rattle.criteria.proofs.Laws.{criterion_law}
 use Rattle.criteria.proofs.criterion.Goals as goal
 
-pub returns-clause-value : goal.returns-clause-value
-unfolding reasons reason_of first_in in_bounds
-returns-clause-value c = search rules
-
-pub returns-clause-law : goal.returns-clause-law
-returns-clause-law c = λ some B meets. criterion_law c.args.q.now c.requires.bounds (subst IsSome (returns-clause-value c) some) B meets
+pub returns-in-Td-clause-law : goal.returns-in-Td-clause-law
+returns-in-Td-clause-law c = λ some B meets. criterion_law c.args.q.now c.requires.bounds (subst IsSome (c.td_criterion.ensures ∙ ap criterion_of (sym c.in-Td.is)) some) B meets
