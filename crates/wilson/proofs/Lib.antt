@@ -1,0 +1,9 @@
+pub mod HoledArray
+pub mod Apart
+pub mod FilledArray
+pub mod OneGroup
+pub mod TwoGroups
+pub mod DisjointRows
+pub mod Designs
+pub mod Steps
+pub mod Samples

@@ -1,0 +1,265 @@
+// Master rows filled with the rows of an ingredient.
+ghost use Rattle.std.specs.Prelude.{◌≡◌, ◌+◌, ◌*◌, ◌<◌, ◌≤◌, ◌++◌, [], ◌∷◌, All, IfOk, OnOk, flat_map, length};
+ghost use Rattle.design_base.specs.Arrays.{IsRow, blocks_of_rows};
+ghost use Rattle.incidence.specs.Packed.{size_of};
+ghost use Rattle.transversal.specs.Constructions.{raised};
+ghost use Rattle.wilson.specs.Truncations.{fill_one, fill_two, filled as filled_symbol, filled_row, filled_rows};
+
+use design_base::{Memory, PACKED_MAX, TD_K_MAX, TD_N_MAX};
+use incidence::Rows;
+use transversal::push_block;
+
+// A symbol `s` below `m` gives the point `x * m + s`, and the symbols from `m` on give the infinite points in their order.
+#[tactic(auto, unfolding(crate::specs::Truncations::filled))]
+fn filled(m: u16, infinite: &[u16], x: u16, s: u16) -> u16
+    requires within { s < m + length infinite.now }
+    requires small { x * m + m ≤ TD_N_MAX }
+    ensures { result ≡ filled_symbol m infinite.now x s }
+{
+    if s < m {
+        x * m + s
+    } else {
+        infinite[usize::from(s - m)]
+    }
+}
+
+// Appends the block of one row of an ingredient, put on the points of the master row and on infinite points.
+#[tactic(auto, using(crate::proofs::Steps::filled_row_none))]
+fn push_filled_row(
+    rows: &mut Rows,
+    k: u16,
+    n: u16,
+    m: u16,
+    infinite: &[u16],
+    master: &[u16],
+    row: &[u16],
+) -> Result<(), Memory>
+    requires groups { k ≤ TD_K_MAX }
+    requires points { n ≤ TD_N_MAX }
+    requires infinite_points { All (λ p. p < n) infinite.now }
+    requires columns { k ≤ length master.now }
+    requires master_points { All (λ x. x * m + m ≤ n) master.now }
+    requires row { IsRow k (m + length infinite.now) row.now }
+    requires room { size_of rows.old + k + 1 < PACKED_MAX }
+    ensures ok { OnOk result (rows.new ≡ rows.old ++ blocks_of_rows k n (filled_row k m infinite.now master.now row.now ∷ [])) }
+    ensures size { OnOk result (size_of rows.new ≡ size_of rows.old + k + 1) }
+{
+    let mut entries = [0; TD_K_MAX as usize];
+    for j in 0..k as usize {
+        entries[j] = filled(m, infinite, master[j], row[j]);
+    }
+    push_block(rows, k, n, &entries[..k as usize])
+}
+
+// Appends the blocks of all rows of an ingredient, put on the points of the master row and on infinite points.
+#[tactic(auto, using(crate::proofs::Steps::steps))]
+fn push_filled(
+    rows: &mut Rows,
+    k: u16,
+    n: u16,
+    m: u16,
+    infinite: &[u16],
+    master: &[u16],
+    ingredient: &Rows,
+) -> Result<(), Memory>
+    requires groups { k ≤ TD_K_MAX }
+    requires points { n ≤ TD_N_MAX }
+    requires infinite_points { All (λ p. p < n) infinite.now }
+    requires columns { k ≤ length master.now }
+    requires master_points { All (λ x. x * m + m ≤ n) master.now }
+    requires rows { All (IsRow k (m + length infinite.now)) ingredient.now }
+    requires room { size_of rows.old + (TD_K_MAX + 1) * length ingredient.now < PACKED_MAX }
+    ensures ok { OnOk result (rows.new ≡ rows.old ++ blocks_of_rows k n (filled_rows k m infinite.now master.now ingredient.now)) }
+    ensures size { OnOk result (size_of rows.new ≤ size_of rows.old + (TD_K_MAX + 1) * length ingredient.now) }
+{
+    for row in ingredient.iter() {
+        push_filled_row(rows, k, n, m, infinite, master, row)?;
+    }
+    Ok(())
+}
+
+// Appends the blocks for one master row with column `k` truncated to `u` symbols.
+#[tactic(auto, using(crate::proofs::Steps::fill_one_kept, crate::proofs::Steps::fill_one_dropped))]
+fn push_fill_one(
+    rows: &mut Rows,
+    k: u16,
+    m: u16,
+    t: u16,
+    u: u16,
+    small: &Rows,
+    large: &Rows,
+    master: &[u16],
+) -> Result<(), Memory>
+    requires groups { k ≤ TD_K_MAX }
+    requires points { m * t + u ≤ TD_N_MAX }
+    requires small_rows { All (IsRow k m) small.now }
+    requires large_rows { All (IsRow k (m + 1)) large.now }
+    requires few_small { length small.now ≤ TD_N_MAX * TD_N_MAX }
+    requires few_large { length large.now ≤ TD_N_MAX * TD_N_MAX }
+    requires master_row { IsRow (k + 1) t master.now }
+    requires room { size_of rows.old + (TD_K_MAX + 1) * TD_N_MAX * TD_N_MAX < PACKED_MAX }
+    ensures ok { OnOk result (rows.new ≡ rows.old ++ blocks_of_rows k (m * t + u) (fill_one k m t u small.now large.now master.now)) }
+    ensures size { OnOk result (size_of rows.new ≤ size_of rows.old + (TD_K_MAX + 1) * TD_N_MAX * TD_N_MAX) }
+{
+    let n = m * t + u;
+    let y = master[usize::from(k)];
+    if y < u {
+        push_filled(rows, k, n, m, &[m * t + y], master, large)
+    } else {
+        push_filled(rows, k, n, m, &[], master, small)
+    }
+}
+
+// Appends the blocks for all master rows with column `k` truncated to `u` symbols.
+#[tactic(auto, using(crate::proofs::Steps::steps))]
+pub fn push_fills_one(
+    rows: &mut Rows,
+    k: u16,
+    m: u16,
+    t: u16,
+    u: u16,
+    small: &Rows,
+    large: &Rows,
+    master: &Rows,
+) -> Result<(), Memory>
+    requires groups { k ≤ TD_K_MAX }
+    requires points { m * t + u ≤ TD_N_MAX }
+    requires small_rows { All (IsRow k m) small.now }
+    requires large_rows { All (IsRow k (m + 1)) large.now }
+    requires few_small { length small.now ≤ TD_N_MAX * TD_N_MAX }
+    requires few_large { length large.now ≤ TD_N_MAX * TD_N_MAX }
+    requires master_rows { All (IsRow (k + 1) t) master.now }
+    requires room { size_of rows.old + (TD_K_MAX + 1) * TD_N_MAX * TD_N_MAX * length master.now < PACKED_MAX }
+    ensures ok { OnOk result (rows.new ≡ rows.old ++ blocks_of_rows k (m * t + u) (flat_map (fill_one k m t u small.now large.now) master.now)) }
+    ensures size { OnOk result (size_of rows.new ≤ size_of rows.old + (TD_K_MAX + 1) * TD_N_MAX * TD_N_MAX * length master.now) }
+{
+    for row in master.iter() {
+        push_fill_one(rows, k, m, t, u, small, large, row)?;
+    }
+    Ok(())
+}
+
+// Appends the blocks for one master row with column `k` truncated to `u` symbols and column `k + 1` to `w`.
+#[tactic(auto, using(crate::proofs::Steps::fill_two_both, crate::proofs::Steps::fill_two_first, crate::proofs::Steps::fill_two_second, crate::proofs::Steps::fill_two_none))]
+fn push_fill_two(
+    rows: &mut Rows,
+    k: u16,
+    m: u16,
+    t: u16,
+    u: u16,
+    w: u16,
+    td0: &Rows,
+    td1: &Rows,
+    td2: &Rows,
+    master: &[u16],
+) -> Result<(), Memory>
+    requires groups { k ≤ TD_K_MAX }
+    requires points { m * t + u + w ≤ TD_N_MAX }
+    requires rows0 { All (IsRow k m) td0.now }
+    requires rows1 { All (IsRow k (m + 1)) td1.now }
+    requires rows2 { All (IsRow k (m + 2)) td2.now }
+    requires few0 { length td0.now ≤ TD_N_MAX * TD_N_MAX }
+    requires few1 { length td1.now ≤ TD_N_MAX * TD_N_MAX }
+    requires few2 { length td2.now ≤ TD_N_MAX * TD_N_MAX }
+    requires master_row { IsRow (k + 2) t master.now }
+    requires room { size_of rows.old + (TD_K_MAX + 1) * TD_N_MAX * TD_N_MAX < PACKED_MAX }
+    ensures ok { OnOk result (rows.new ≡ rows.old ++ blocks_of_rows k (m * t + u + w) (fill_two k m t u w td0.now td1.now td2.now master.now)) }
+    ensures size { OnOk result (size_of rows.new ≤ size_of rows.old + (TD_K_MAX + 1) * TD_N_MAX * TD_N_MAX) }
+{
+    let n = m * t + u + w;
+    let y = master[usize::from(k)];
+    let z = master[usize::from(k) + 1];
+    if y < u {
+        if z < w {
+            push_filled(rows, k, n, m, &[m * t + y, m * t + u + z], master, td2)
+        } else {
+            push_filled(rows, k, n, m, &[m * t + y], master, td1)
+        }
+    } else if z < w {
+        push_filled(rows, k, n, m, &[m * t + u + z], master, td1)
+    } else {
+        push_filled(rows, k, n, m, &[], master, td0)
+    }
+}
+
+// Appends the blocks for all master rows with column `k` truncated to `u` symbols and column `k + 1` to `w`.
+#[tactic(auto, using(crate::proofs::Steps::steps))]
+pub fn push_fills_two(
+    rows: &mut Rows,
+    k: u16,
+    m: u16,
+    t: u16,
+    u: u16,
+    w: u16,
+    td0: &Rows,
+    td1: &Rows,
+    td2: &Rows,
+    master: &Rows,
+) -> Result<(), Memory>
+    requires groups { k ≤ TD_K_MAX }
+    requires points { m * t + u + w ≤ TD_N_MAX }
+    requires rows0 { All (IsRow k m) td0.now }
+    requires rows1 { All (IsRow k (m + 1)) td1.now }
+    requires rows2 { All (IsRow k (m + 2)) td2.now }
+    requires few0 { length td0.now ≤ TD_N_MAX * TD_N_MAX }
+    requires few1 { length td1.now ≤ TD_N_MAX * TD_N_MAX }
+    requires few2 { length td2.now ≤ TD_N_MAX * TD_N_MAX }
+    requires master_rows { All (IsRow (k + 2) t) master.now }
+    requires room { size_of rows.old + (TD_K_MAX + 1) * TD_N_MAX * TD_N_MAX * length master.now < PACKED_MAX }
+    ensures ok { OnOk result (rows.new ≡ rows.old ++ blocks_of_rows k (m * t + u + w) (flat_map (fill_two k m t u w td0.now td1.now td2.now) master.now)) }
+    ensures size { OnOk result (size_of rows.new ≤ size_of rows.old + (TD_K_MAX + 1) * TD_N_MAX * TD_N_MAX * length master.now) }
+{
+    for row in master.iter() {
+        push_fill_two(rows, k, m, t, u, w, td0, td1, td2, row)?;
+    }
+    Ok(())
+}
+
+// Appends the block of a row of `k` symbols below `h`, with `c` added to each.
+#[tactic(auto, using(crate::proofs::Steps::raised_row_none))]
+fn push_raised_row(
+    rows: &mut Rows,
+    k: u16,
+    n: u16,
+    c: u16,
+    h: u16,
+    row: &[u16],
+) -> Result<(), Memory>
+    requires groups { k ≤ TD_K_MAX }
+    requires points { n ≤ TD_N_MAX }
+    requires raised_points { c + h ≤ n }
+    requires row { IsRow k h row.now }
+    requires room { size_of rows.old + k + 1 < PACKED_MAX }
+    ensures ok { OnOk result (rows.new ≡ rows.old ++ blocks_of_rows k n (raised c (row.now ∷ []))) }
+    ensures size { OnOk result (size_of rows.new ≡ size_of rows.old + k + 1) }
+{
+    let mut entries = [0; TD_K_MAX as usize];
+    for j in 0..k as usize {
+        entries[j] = c + row[j];
+    }
+    push_block(rows, k, n, &entries[..k as usize])
+}
+
+// Appends the blocks of rows of `k` symbols below `h`, with `c` added to each.
+#[tactic(auto, using(crate::proofs::Steps::steps))]
+pub fn push_raised(
+    rows: &mut Rows,
+    k: u16,
+    n: u16,
+    c: u16,
+    h: u16,
+    array: &Rows,
+) -> Result<(), Memory>
+    requires groups { k ≤ TD_K_MAX }
+    requires points { n ≤ TD_N_MAX }
+    requires raised_points { c + h ≤ n }
+    requires rows { All (IsRow k h) array.now }
+    requires room { size_of rows.old + (TD_K_MAX + 1) * length array.now < PACKED_MAX }
+    ensures ok { OnOk result (rows.new ≡ rows.old ++ blocks_of_rows k n (raised c array.now)) }
+    ensures size { OnOk result (size_of rows.new ≤ size_of rows.old + (TD_K_MAX + 1) * length array.now) }
+{
+    for row in array.iter() {
+        push_raised_row(rows, k, n, c, h, row)?;
+    }
+    Ok(())
+}

@@ -1,0 +1,101 @@
+// Blocks that were computed elsewhere.
+use super::*;
+use field_tables::Fields;
+use incidence::Rows;
+use std::process::Abort;
+use std::test::Fail;
+use transversal::{field_td, one};
+
+// The number of blocks, and the first two of them.
+fn assert_blocks(rt: &impl Abort, rows: &Rows, len: usize, first: &[u16], second: &[u16]) {
+    assert_eq!(rt; rows.len(), len);
+    assert!(rt; 1 < len);
+    assert_eq!(rt; rows.row(0), first);
+    assert_eq!(rt; rows.row(1), second);
+}
+
+// The place of the first row that is disjoint from the first one.
+fn assert_place(rt: &impl Abort, rows: &Rows, place: Option<usize>) {
+    assert!(rt; 0 < rows.len());
+    assert_eq!(rt; disjoint_from_first(rows), place);
+}
+
+#[test]
+fn disjoint_blocks(rt: HostRuntime) -> Result<(), Fail> {
+    let alloc = rt.alloc();
+    let fields = Fields::open(alloc)?;
+    let three = fields.field(3).ok_or("no field")?;
+    let four = fields.field(4).ok_or("no field")?;
+    assert_place(&rt, &field_td(alloc, three, 3)?, Some(4));
+    assert_place(&rt, &field_td(alloc, three, 4)?, None);
+    assert_place(&rt, &field_td(alloc, four, 3)?, Some(6));
+    assert_place(&rt, &field_td(alloc, four, 4)?, Some(7));
+    assert_place(&rt, &field_td(alloc, four, 5)?, None);
+    Ok(())
+}
+
+#[test]
+fn one_truncated_group(rt: HostRuntime) -> Result<(), Fail> {
+    let alloc = rt.alloc();
+    let fields = Fields::open(alloc)?;
+    let three = fields.field(3).ok_or("no field")?;
+    let four = fields.field(4).ok_or("no field")?;
+    let five = fields.field(5).ok_or("no field")?;
+    let master = field_td(alloc, five, 5)?;
+    let small = field_td(alloc, three, 4)?;
+    let large = field_td(alloc, four, 4)?;
+    let rows = truncate_one(alloc, 4, 3, 5, 3, &master, &small, &large, &small)?;
+    assert_blocks(&rt, &rows, 324, &[0, 18, 51, 56], &[0, 19, 38, 69]);
+    Ok(())
+}
+
+#[test]
+fn one_group_of_three_points(rt: HostRuntime) -> Result<(), Fail> {
+    let alloc = rt.alloc();
+    let fields = Fields::open(alloc)?;
+    let three = fields.field(3).ok_or("no field")?;
+    let master = field_td(alloc, three, 4)?;
+    let small = field_td(alloc, fields.field(2).ok_or("no field")?, 3)?;
+    let large = field_td(alloc, three, 3)?;
+    let point = one(alloc, 3)?;
+    let rows = truncate_one(alloc, 3, 2, 3, 1, &master, &small, &large, &point)?;
+    assert_blocks(&rt, &rows, 49, &[0, 7, 15], &[0, 8, 20]);
+    let rows = truncate_one(alloc, 3, 2, 3, 2, &master, &small, &large, &small)?;
+    assert_blocks(&rt, &rows, 64, &[0, 8, 17], &[0, 9, 22]);
+    let rows = truncate_one(alloc, 3, 2, 3, 3, &master, &small, &large, &large)?;
+    assert_blocks(&rt, &rows, 81, &[0, 9, 19], &[0, 10, 24]);
+    Ok(())
+}
+
+#[test]
+fn two_truncated_groups(rt: HostRuntime) -> Result<(), Fail> {
+    let alloc = rt.alloc();
+    let fields = Fields::open(alloc)?;
+    let master = field_td(alloc, fields.field(7).ok_or("no field")?, 6)?;
+    let td0 = field_td(alloc, fields.field(3).ok_or("no field")?, 4)?;
+    let td1 = field_td(alloc, fields.field(4).ok_or("no field")?, 4)?;
+    let td2 = field_td(alloc, fields.field(5).ok_or("no field")?, 4)?;
+    let point = one(alloc, 4)?;
+    let rows = truncate_two(
+        alloc, 4, 3, 7, 4, 1, &master, &td0, &td1, &td2, &td1, &point,
+    )?;
+    assert_blocks(&rt, &rows, 676, &[0, 26, 54, 78], &[0, 27, 73, 79]);
+    Ok(())
+}
+
+#[test]
+fn two_groups_of_four_points(rt: HostRuntime) -> Result<(), Fail> {
+    let alloc = rt.alloc();
+    let fields = Fields::open(alloc)?;
+    let four = fields.field(4).ok_or("no field")?;
+    let master = field_td(alloc, four, 5)?;
+    let td0 = field_td(alloc, fields.field(2).ok_or("no field")?, 3)?;
+    let td1 = field_td(alloc, fields.field(3).ok_or("no field")?, 3)?;
+    let td2 = field_td(alloc, four, 3)?;
+    let point = one(alloc, 3)?;
+    let rows = truncate_two(
+        alloc, 3, 2, 4, 2, 1, &master, &td0, &td1, &td2, &td0, &point,
+    )?;
+    assert_blocks(&rt, &rows, 121, &[0, 11, 32], &[0, 12, 22]);
+    Ok(())
+}
