@@ -1,0 +1,12 @@
+pub mod Bounds
+pub mod Chosen
+pub mod Depths
+pub mod Each
+pub mod Few
+pub mod Firsts
+pub mod Followed
+pub mod Members
+pub mod Ranks
+pub mod Spelled
+pub mod Turns
+pub mod Unfolds

@@ -1,0 +1,187 @@
+-- A step that the table allows is one of the candidates, and the premises behind some parameters.
+use Rattle.std.proofs.Common.{◌≡◌, ℕ, zero, suc, ◌+◌, ◌-◌, ◌≤◌, Bool, true, false, ◌&&◌, List, [], ◌∷◌, ◌++◌, arith, refl, map, length, ap, sym, subst, ◌∙◌}
+use Rattle.std.specs.Prelude.{flat_map, if◌then◌else◌, ◌↔◌}
+use Rattle.std.specs.List.{list_all, AllByRecursion, Contains}
+use Rattle.std.proofs.lemmas.Bool.{leb-true}
+use Rattle.std.proofs.lemmas.List.Elements.{Contains-append_left, Contains-append_right}
+use Rattle.counting.specs.Search.{upward}
+use Rattle.counting.proofs.Ranges.{length-list_below, get_or-list_below}
+use Rattle.design_base.specs.declared.query.Query.{Query}
+use Rattle.design_base.specs.declared.rule.Rule.{Rule}
+use Rattle.design_base.specs.declared.rule.Rule.TheVariants.{TdOne}
+use Rattle.design_base.specs.Rules.{rules, number_of_rule, title}
+use Rattle.design_base.specs.Limits.{in_bounds, within}
+use Rattle.design_base.specs.Steps.{Step, IsStep, step, step_with}
+use Rattle.smallvec.specs.SmallVec.{SmallVec}
+use Rattle.rule_table.specs.declared.next.Next.TheVariants.{Parameter, Premises, Nothing}
+use Rattle.rule_table.specs.Terms.{Terms, when◌asks◌, from◌to◌take◌, choices, allows, premises_at}
+use Rattle.rule_table.specs.Table.{terms}
+use Rattle.rule_table.specs.Candidates.{candidates, is_candidate, premises, four}
+use Rattle.rule_table.specs.Nexts.{IsNext}
+use Rattle.rule_table.specs.Walks.{terms_at}
+use Rattle.rule_table.proofs.Bounds.{both}
+use Rattle.rule_table.proofs.Chosen.{candidates_are}
+use Rattle.rule_table.proofs.Depths.{HasDepth, depth}
+use Rattle.rule_table.proofs.Firsts.{terms_at-none, next-parameter, next-premises, next-nothing}
+
+-- what is allowed, and the premises, by what the terms say first
+
+module _ (t : Terms) (xs rest : List ℕ) (low high : ℕ) (h : IsNext (terms_at t xs) (Parameter low high)) where
+  further : (x : ℕ) (ys tail : List ℕ) → ys ≡ xs ++ x ∷ [] → rest ≡ x ∷ tail → allows (terms_at t xs) rest ≡ (within low high x && allows (terms_at t ys) tail)
+  unfolding allows
+  further x ys tail e k = (λ i. allows (next-parameter t xs low high h i) (k i)) ∙ (λ i. within low high x && allows (terms_at t (sym e i)) tail)
+
+  pub allows_inside : (x : ℕ) (ys tail : List ℕ) (b : Bool) → ys ≡ xs ++ x ∷ [] → rest ≡ x ∷ tail → within low high x ≡ true → b ≡ allows (terms_at t ys) tail
+      → b ≡ allows (terms_at t xs) rest
+  allows_inside x ys tail b e k w r = r ∙ sym (further x ys tail e k ∙ ap (λ v. v && allows (terms_at t ys) tail) w)
+
+  pub allows_outside : (x : ℕ) (tail : List ℕ) (b : Bool) → rest ≡ x ∷ tail → false ≡ within low high x → b ≡ false → b ≡ allows (terms_at t xs) rest
+  allows_outside x tail b k w f =
+      f ∙ sym (further x (xs ++ x ∷ []) tail refl k ∙ ap (λ v. v && allows (terms_at t (xs ++ x ∷ [])) tail) (sym w))
+
+  pub allows_later : (x : ℕ) (ys tail : List ℕ) → ys ≡ xs ++ x ∷ [] → rest ≡ x ∷ tail → allows (terms_at t xs) rest ≡ true → allows (terms_at t ys) tail ≡ true
+  allows_later x ys tail e k a = (both (within low high x) (allows (terms_at t ys) tail) (sym (further x ys tail e k) ∙ a)).1
+
+  pub premises_further : (x : ℕ) (ys tail : List ℕ) (ps : List Query) → ys ≡ xs ++ x ∷ [] → rest ≡ x ∷ tail → ps ≡ premises_at (terms_at t ys) tail
+      → ps ≡ premises_at (terms_at t xs) rest
+  unfolding premises_at
+  premises_further x ys tail ps e k r = r ∙ (λ i. premises_at (terms_at t (e i)) tail) ∙ (λ i. premises_at (sym (next-parameter t xs low high h) i) (sym k i))
+
+module _ (t : Terms) (xs rest : List ℕ) (low high : ℕ) (h : IsNext (terms_at t xs) (Parameter low high)) (e : length rest ≡ 0) where
+  pub allows_short : false ≡ allows (terms_at t xs) rest
+  unfolding allows
+  allows_short = by rest e
+    where
+      by : (rest : List ℕ) → length rest ≡ 0 → false ≡ allows (terms_at t xs) rest
+      by [] e = ap (λ t. allows t []) (sym (next-parameter t xs low high h))
+      by (x ∷ rest) e = absurd (omega (arith, e))
+
+  pub premises_short : (ps : List Query) → ps ≡ [] → ps ≡ premises_at (terms_at t xs) rest
+  unfolding premises_at
+  premises_short ps n = n ∙ by rest e
+    where
+      by : (rest : List ℕ) → length rest ≡ 0 → [] ≡ premises_at (terms_at t xs) rest
+      by [] e = ap (λ t. premises_at t []) (sym (next-parameter t xs low high h))
+      by (x ∷ rest) e = absurd (omega (arith, e))
+
+module _ (t : Terms) (rest : List ℕ) where
+  pub allows_premises : (list : SmallVec Query) (b : Bool) → IsNext t (Premises list) → b ≡ list_all in_bounds list.items → b ≡ allows t rest
+  unfolding allows
+  allows_premises list b h e = e ∙ ap (λ t. allows t rest) (sym (next-premises t list h))
+
+  pub allows_nothing : IsNext t Nothing → false ≡ allows t rest
+  unfolding allows
+  allows_nothing h = ap (λ t. allows t rest) (sym (next-nothing t h).1)
+
+  pub premises_premises : (list : SmallVec Query) → IsNext t (Premises list) → list.items ≡ premises_at t rest
+  unfolding premises_at
+  premises_premises list h = ap (λ t. premises_at t rest) (sym (next-premises t list h))
+
+-- elements of lists
+
+module _ {X Y : Type 0} where
+  Contains-map : (f : X → Y) (xs : List X) (x : X) → Contains xs x → Contains (map f xs) (f x)
+  Contains-map f [] x (k, l, e) = absurd (omega (arith, l))
+  Contains-map f (y ∷ xs) x (zero, l, e) = (0, omega arith, ap f e)
+  Contains-map f (y ∷ xs) x (suc k, l, e) = let c = Contains-map f xs x (k, omega (arith, l), e) in (suc c.0, omega (arith, c.1), c.2)
+
+  Contains-flat_map : (f : X → List Y) (xs : List X) (x : X) (y : Y) → Contains xs x → Contains (f x) y → Contains (flat_map f xs) y
+  Contains-flat_map f [] x y (k, l, e) c = absurd (omega (arith, l))
+  Contains-flat_map f (z ∷ xs) x y (zero, l, e) c = Contains-append_left (f z) (flat_map f xs) y (subst (λ w. Contains (f w) y) (sym e) c)
+  Contains-flat_map f (z ∷ xs) x y (suc k, l, e) c = Contains-append_right (f z) (flat_map f xs) y (Contains-flat_map f xs x y (k, omega (arith, l), e) c)
+
+each-Contains : {X : Type 0} (P : X → Type 0) (xs : List X) (x : X) → AllByRecursion P xs → Contains xs x → P x
+each-Contains P [] x a (k, l, e) = absurd (omega (arith, l))
+each-Contains P (y ∷ xs) x a (zero, l, e) = subst P e a.0
+each-Contains P (y ∷ xs) x a (suc k, l, e) = each-Contains P xs x a.1 (k, omega (arith, l), e)
+
+Contains-upward : (low high x : ℕ) → low ≤ x → x ≤ high → Contains (upward low high) x
+Contains-upward low high x l h = (
+  x - low,
+  omega (arith, length-list_below (high + 1 - low) (λ i. low + i)),
+  get_or-list_below (high + 1 - low) (λ i. low + i) (x - low) x (omega arith) ∙ (let e : low + (x - low) ≡ x = omega arith in e),
+)
+
+Contains-rules : (r : Rule) → Contains rules r
+Contains-rules TdOne = (0, omega arith, refl)
+Contains-rules r = (number_of_rule r - 1, omega arith, refl)
+
+-- parameters that are allowed begin with n that are chosen
+record Begins (n : ℕ) (t : Terms) (ys : List ℕ) : Type 0 where
+  pub first : List ℕ
+  pub rest : List ℕ
+  pub chosen : Contains (choices t) first
+  pub whole : ys ≡ first ++ rest
+  pub many : length first ≡ n
+
+allowed_begins : (n : ℕ) (t : Terms) (ys : List ℕ) → HasDepth n t → allows t ys ≡ true → Begins n t ys
+unfolding choices allows
+allowed_begins n (when c asks ps) ys d h =
+    record { first = []; rest = ys; chosen = only (c && list_all in_bounds ps) h; whole = refl; many = sym (d (both c (list_all in_bounds ps) h).0) }
+  where
+    only : (b : Bool) → b ≡ true → Contains {X = List ℕ} (if b then [] ∷ [] else []) []
+    only true e = (0, omega arith, refl)
+    only false e = cc
+allowed_begins zero (from low to high take f) ys d h = absurd d
+allowed_begins (suc n) (from low to high take f) [] d h = cc
+allowed_begins (suc n) (from low to high take f) (x ∷ ys) d h =
+    let a = both (within low high x) (allows (f x) ys) h in
+    let w = both _ _ a.0 in
+    let b = allowed_begins n (f x) ys (d x) a.1 in
+    record {
+      first = x ∷ b.first;
+      rest = b.rest;
+      chosen = Contains-flat_map (λ x. map (λ xs. x ∷ xs) (choices (f x))) (upward low high) x (x ∷ b.first)
+          (Contains-upward low high x (leb-true _ _ w.0) (leb-true _ _ w.1)) (Contains-map (λ xs. x ∷ xs) (choices (f x)) b.first b.chosen);
+      whole = ap (λ zs. x ∷ zs) b.whole;
+      many = ap suc b.many;
+    }
+
+-- a step is that of the parameters that its own begin with, where those are as many as its rule has
+step_back : (s : Step) → IsStep s → (xs zs : List ℕ) → four s ≡ xs ++ zs → length xs ≡ (title s.rule).parameters → step_with s.rule xs ≡ s
+step_back s i [] zs e n = λ j. step s.rule (sym (i.a_used (omega (arith, n))) j) (sym (i.b_used (omega (arith, n))) j) (sym (i.c_used (omega (arith, n))) j) (sym (i.d_used (omega (arith, n))) j)
+step_back s i (a ∷ []) zs e n = let ea : a ≡ s.a = cc in λ j. step s.rule (ea j) (sym (i.b_used (omega (arith, n))) j) (sym (i.c_used (omega (arith, n))) j) (sym (i.d_used (omega (arith, n))) j)
+step_back s i (a ∷ b ∷ []) zs e n = let ea : a ≡ s.a = cc in let eb : b ≡ s.b = cc in λ j. step s.rule (ea j) (eb j) (sym (i.c_used (omega (arith, n))) j) (sym (i.d_used (omega (arith, n))) j)
+step_back s i (a ∷ b ∷ c ∷ []) zs e n = let ea : a ≡ s.a = cc in let eb : b ≡ s.b = cc in let ec : c ≡ s.c = cc in λ j. step s.rule (ea j) (eb j) (ec j) (sym (i.d_used (omega (arith, n))) j)
+step_back s i (a ∷ b ∷ c ∷ d ∷ []) zs e n = let ea : a ≡ s.a = cc in let eb : b ≡ s.b = cc in let ec : c ≡ s.c = cc in let ed : d ≡ s.d = cc in λ j. step s.rule (ea j) (eb j) (ec j) (ed j)
+step_back s i (a ∷ b ∷ c ∷ d ∷ f ∷ xs) zs e n = absurd (cc)
+
+allowed_in : (q : Query) (s : Step) → IsStep s → is_candidate q s ≡ true → Contains (candidates q) s
+unfolding candidates is_candidate
+allowed_in q s i h =
+    let b = allowed_begins (title s.rule).parameters (terms q s.rule) (four s) (depth q s.rule) h in
+    subst (λ t. Contains (candidates q) t) (step_back s i b.first b.rest b.whole b.many)
+    (Contains-flat_map (λ r. map (step_with r) (choices (terms q r))) rules s.rule (step_with s.rule b.first) (Contains-rules s.rule)
+    (Contains-map (step_with s.rule) (choices (terms q s.rule)) b.first b.chosen))
+
+-- the candidates are the steps that the test of candidates tells
+pub candidate_is_in : (q : Query) (s : Step) → in_bounds q ≡ true → IsStep s → (is_candidate q s ≡ true) ↔ Contains (candidates q) s
+candidate_is_in q s b i = (allowed_in q s i, each-Contains (λ s. is_candidate q s ≡ true) (candidates q) s (candidates_are q b))
+
+-- the same of a step as the code has it
+
+module _ (q : Query) (r : Rule) (a b c d : ℕ) (s : Step) (e : step r a b c d ≡ s) where
+  pub candidate_told : (told : Bool) → told ≡ allows (terms_at (terms q r) []) (a ∷ b ∷ c ∷ d ∷ []) → told ≡ is_candidate q s
+  unfolding is_candidate
+  candidate_told told h = h ∙ (λ i. allows (terms_at-none (terms q r) i) (a ∷ b ∷ c ∷ d ∷ [])) ∙ ap (is_candidate q) e
+
+  pub member_told : (told : Bool) → in_bounds q ≡ true → IsStep (step r a b c d) → told ≡ allows (terms_at (terms q r) []) (a ∷ b ∷ c ∷ d ∷ []) → (told ≡ true) ↔ Contains (candidates q) s
+  member_told told h i t =
+      let m = candidate_is_in q s h (subst IsStep e i) in
+      (λ y. m.0 (sym (candidate_told told t) ∙ y), λ y. candidate_told told t ∙ m.1 y)
+
+  pub candidate_allowed : is_candidate q s ≡ true → allows (terms_at (terms q r) []) (a ∷ b ∷ c ∷ d ∷ []) ≡ true
+  candidate_allowed h = candidate_told (allows (terms_at (terms q r) []) (a ∷ b ∷ c ∷ d ∷ [])) refl ∙ h
+
+  pub premises_told : (ps : List Query) → ps ≡ premises_at (terms_at (terms q r) []) (a ∷ b ∷ c ∷ d ∷ []) → ps ≡ premises q s
+  unfolding premises
+  premises_told ps h = h ∙ (λ i. premises_at (terms_at-none (terms q r) i) (a ∷ b ∷ c ∷ d ∷ [])) ∙ ap (premises q) e
+
+-- for the functions of the parameters of a step
+pub ruleset allows_laws = (allows_inside, allows_short, allows_premises, allows_nothing)
+
+pub ruleset candidate_laws = (candidate_told, member_told)
+
+pub ruleset premises_behind_laws = (allows_later, allows_nothing, premises_further, premises_short, premises_premises)
+
+pub ruleset premises_laws = (candidate_allowed, premises_told)

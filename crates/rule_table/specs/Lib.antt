@@ -1,0 +1,11 @@
+pub mod Terms
+pub mod Table
+pub mod Candidates
+pub mod Rank
+pub mod Verdicts
+pub mod Asked
+pub mod Walks
+pub mod Takens
+pub mod Nexts
+pub mod Progress
+pub mod Told

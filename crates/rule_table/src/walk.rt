@@ -1,0 +1,114 @@
+ghost use Rattle.std.specs.Prelude.{◌≡◌, ◌<◌, ◌≤◌, true, length, drop, []};
+ghost use Rattle.std.specs.List.{AllByRecursion, list_all};
+ghost use Rattle.design_base.specs.declared.limits.TheConstants.{PARAMETER_MAX};
+ghost use Rattle.design_base.specs.Limits.{in_bounds as is_in_bounds};
+ghost use Rattle.design_base.specs.Rules.{title, rules};
+ghost use Rattle.rule_table.specs.Takens.{listed, IsSmall};
+ghost use Rattle.rule_table.specs.Walks.{head, steps_under, steps_between, steps_behind, steps_of, steps_after};
+
+use crate::next::Next;
+use crate::table::{RULES, next_of, number_of, rule_at};
+use crate::taken::Taken;
+use crate::tools::Tools;
+use design_base::{Query, Rule, Step, in_bounds};
+
+// Whether each question is in bounds.
+pub(crate) fn are_in_bounds(questions: &[Query]) -> bool
+    ensures { result ≡ list_all is_in_bounds questions.now }
+{
+    questions.iter().all(|q| in_bounds(q))
+}
+
+// The first candidate of a rule whose parameters begin so.
+#[tactic(auto, using(crate::proofs::Firsts::first_under_laws))]
+#[cycle(first)]
+fn first_under(tools: &Tools, q: &Query, rule: Rule, taken: Taken) -> Option<Step>
+    requires bounds { is_in_bounds q.now ≡ true }
+    requires small { IsSmall taken }
+    requires count { length (listed taken) ≤ (title rule).parameters }
+    ensures { result ≡ head (steps_under q.now rule (listed taken)) }
+{
+    match next_of(tools, q, rule, taken) {
+        Next::Parameter { low, high } => first_between(tools, q, rule, taken, low, high),
+        Next::Premises(premises) => {
+            if are_in_bounds(premises.as_slice()) {
+                Some(taken.step(rule))
+            } else {
+                None
+            }
+        }
+        Next::Nothing => None,
+    }
+}
+
+// The first of those whose next parameter is from `low` to `high`.
+#[tactic(auto, using(crate::proofs::Firsts::first_between_laws))]
+#[cycle(first)]
+fn first_between(
+    tools: &Tools,
+    q: &Query,
+    rule: Rule,
+    taken: Taken,
+    low: u16,
+    high: u16,
+) -> Option<Step>
+    requires bounds { is_in_bounds q.now ≡ true }
+    requires small { IsSmall taken }
+    requires count { length (listed taken) < (title rule).parameters }
+    requires high_small { high ≤ PARAMETER_MAX }
+    ensures { result ≡ head (steps_between q.now rule (listed taken) low high) }
+{
+    for x in low..high + 1 {
+        if let Some(step) = first_under(tools, q, rule, taken.with(x)) {
+            return Some(step);
+        }
+    }
+    None
+}
+
+// The first of those that begin so and stand behind the rest.
+#[tactic(auto, using(crate::proofs::Firsts::first_behind_laws))]
+fn first_behind(tools: &Tools, q: &Query, rule: Rule, taken: Taken, rest: &[u16]) -> Option<Step>
+    requires bounds { is_in_bounds q.now ≡ true }
+    requires small { IsSmall taken }
+    requires rest_small { AllByRecursion (λ x. x ≤ PARAMETER_MAX) rest.now }
+    ensures { result ≡ head (steps_behind q.now rule (listed taken) rest.now) }
+{
+    let (x, rest) = rest.split_first()?;
+    let Next::Parameter { low: _, high } = next_of(tools, q, rule, taken) else {
+        return None;
+    };
+    if let Some(step) = first_behind(tools, q, rule, taken.with(*x), rest) {
+        return Some(step);
+    }
+    first_between(tools, q, rule, taken, *x + 1, high)
+}
+
+// The first candidate of the rules from a place in their list on.
+#[tactic(auto, using(crate::proofs::Firsts::first_of_rules_laws))]
+pub(crate) fn first_of_rules(tools: &Tools, q: &Query, start: usize) -> Option<Step>
+    requires bounds { is_in_bounds q.now ≡ true }
+    requires range { start ≤ length rules }
+    ensures { result ≡ head (steps_of q.now (drop start rules)) }
+{
+    for i in start..RULES.len() {
+        let rule = rule_at(i);
+        if let Some(step) = first_under(tools, q, rule, Taken::Zero) {
+            return Some(step);
+        }
+    }
+    None
+}
+
+// The candidate behind a step.
+#[tactic(auto, using(crate::proofs::Firsts::following_laws))]
+pub(crate) fn following(tools: &Tools, q: &Query, step: &Step) -> Option<Step>
+    requires { is_in_bounds q.now ≡ true }
+    ensures { result ≡ head (steps_after q.now step.now) }
+{
+    let rest = [step.a, step.b, step.c, step.d];
+    if let Some(found) = first_behind(tools, q, step.rule, Taken::Zero, &rest) {
+        return Some(found);
+    }
+    first_of_rules(tools, q, number_of(step.rule))
+}
