@@ -1,0 +1,9 @@
+pub mod Same
+pub mod Blocks
+pub mod AllMeet
+pub mod Derivations
+pub mod Marks
+pub mod Kept
+pub mod Ends
+pub mod Spelled
+pub mod Laws

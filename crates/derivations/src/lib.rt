@@ -1,0 +1,19 @@
+//! Derivations: the steps that lead to a design, what is wrong with a list of steps, and the design that it leads to.
+#![tactic(auto)]
+
+mod building;
+mod faults;
+mod laws;
+mod line;
+mod names;
+mod replaying;
+mod unfolding;
+
+pub use laws::derivation_laws;
+pub use line::{Derivation, Fault, Line, LineFault, ReplayEnd};
+pub use names::Names;
+pub use replaying::replay;
+pub use unfolding::derive;
+
+#[cfg(test)]
+mod tests;
