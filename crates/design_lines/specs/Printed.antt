@@ -23,6 +23,10 @@ line_of words = spaced words ++ 10 ∷ []
 abbrev pub row_text : List ℕ → List ℕ
 row_text row = spaced (map decimal row)
 
+-- a word and a number, as a line
+unfoldable pub counted_line : List ℕ → ℕ → List ℕ
+counted_line word number = line_of (word ∷ decimal number ∷ [])
+
 -- a word behind those of a line
 abbrev pub with_word : List ℕ → List ℕ → List ℕ
 with_word [] word = word

@@ -16,7 +16,7 @@ pub use command::{Asked, Command, Reason, Shape, Verb};
 pub use commands::{read_line, read_words};
 pub use line::{LINE_ROOM, Line, TEXT_ROOM, Text};
 pub use names::{criterion_name, parameter_count, rule_name};
-pub use texts::{question_text, row_line, step_text};
+pub use texts::{counted_line, question_text, row_line, step_text};
 pub use words::Words;
 
 #[cfg(test)]

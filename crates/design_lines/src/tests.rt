@@ -1,6 +1,6 @@
 use crate::{
-    Asked, BlockLineEnd, Command, Line, Reason, Shape, Verb, push_block_line, question_text,
-    read_line, read_words, step_text,
+    Asked, BlockLineEnd, Command, Line, Reason, Shape, Verb, counted_line, push_block_line,
+    question_text, read_line, read_words, step_text,
 };
 use design_base::{Group, Query, Rule, Step, TableAsk};
 use incidence::Rows;
@@ -140,6 +140,10 @@ fn questions_and_steps_are_printed(rt: HostRuntime) {
     line.push_number(12);
     line.end();
     assert_eq!(rt; line.bytes(), b"blocks 12\n".as_slice());
+    assert_eq!(rt;
+        counted_line("end", 65_536).bytes(),
+        b"end 65536\n".as_slice()
+    );
 }
 
 // What is answered to a line of at most 64 bytes, and the rows that it made.

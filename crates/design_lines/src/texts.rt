@@ -1,7 +1,7 @@
 //! Questions, steps and rows of numbers as they are printed.
-ghost use Rattle.std.specs.Prelude.{◌≡◌, ◌*◌, ◌<◌, length, map};
+ghost use Rattle.std.specs.Prelude.{◌≡◌, ◌*◌, ◌<◌, ◌≤◌, length, map};
 ghost use Rattle.std.specs.Fmt.{decimal};
-ghost use Rattle.design_lines.specs.Printed.{group_word, line_of, question_words, spaced, step_words};
+ghost use Rattle.design_lines.specs.Printed.{counted_line as counted_text, group_word, line_of, question_words, spaced, step_words};
 
 use crate::line::{LINE_ROOM, Line, Text};
 use crate::names::{parameter_count, rule_name};
@@ -59,6 +59,20 @@ pub fn step_text(step: &Step) -> Text
     let parameters = [step.a, step.b, step.c, step.d];
     text.push_numbers(&parameters[..parameter_count(step.rule)]);
     text
+}
+
+/// A word and a number, as a line. The word has 1 to 100 bytes.
+#[tactic(auto, using(crate::proofs::Joined::line_of_two), unfolding(crate::specs::Printed::counted_line))]
+pub fn counted_line(word: &str, number: u64) -> Line
+    requires started { 0 < length word.now }
+    requires short { length word.now ≤ 100 }
+    ensures { result ≡ counted_text word.now number }
+{
+    let mut line = Line::new();
+    line.push_word(word.as_bytes());
+    line.push_number(number);
+    line.end();
+    line
 }
 
 /// A row of numbers as a line, with one space between each two.

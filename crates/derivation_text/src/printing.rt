@@ -1,0 +1,69 @@
+//! Printing a derivation: version 1 of its text.
+ghost use Rattle.std.specs.Prelude.{◌≡◌, ◌+◌, ◌*◌, ◌≤◌, All, length};
+ghost use Rattle.std.specs.List.{flat_map};
+ghost use Rattle.design_base.specs.declared.limits.TheConstants.{PREMISES_MAX};
+ghost use Rattle.design_io.specs.Faults.{HasCause};
+ghost use Rattle.design_io.specs.Pieces.{AppendsWhole};
+ghost use Rattle.design_lines.specs.Printed.{with_words};
+ghost use Rattle.design_lines.specs.declared.line.TheConstants.{LINE_ROOM};
+ghost use Rattle.derivation_text.specs.Text.{derivation_lines, from_words, numbered_line as numbered_text, numbered_lines};
+
+use derivations::{Derivation, Line};
+use design_io::{Failed, Sink, write_whole};
+use design_lines::{Line as TextLine, counted_line, question_text, step_text};
+
+// Appends the numbers of the lines that a line names, where it names any.
+#[tactic(auto, using(crate::proofs::Texts::from_none, design_lines::proofs::Joined::numbers_more))]
+fn push_names(text: &mut TextLine, numbers: &[u64])
+    requires { length text.old + 5 + 21 * length numbers.now ≤ LINE_ROOM }
+    ensures words { text.new ≡ with_words text.old (from_words numbers.now) }
+    ensures short { length text.new ≤ length text.old + 5 + 21 * length numbers.now }
+{
+    if numbers.is_empty() {
+        return;
+    }
+    text.push_word(b"from");
+    for number in numbers {
+        text.push_number(*number);
+    }
+}
+
+// A line with its number.
+#[tactic(auto, using(crate::proofs::Texts::numbered_joined))]
+fn numbered_line(number: u64, line: &Line) -> TextLine
+    requires few { length line.now.from ≤ PREMISES_MAX }
+    ensures { result ≡ numbered_text number line.now }
+{
+    let mut text = TextLine::new();
+    text.push_number(number);
+    text.push_word(question_text(&line.query).bytes());
+    text.push_word(step_text(&line.step).bytes());
+    push_names(&mut text, line.from.as_slice());
+    text.end();
+    text
+}
+
+// Writes the lines, numbered from 1 on.
+fn write_numbered<K: Sink>(lines: &[Line], sink: &mut K) -> Result<(), Failed>
+    requires few { All (λ l. length l.from ≤ PREMISES_MAX) lines.now }
+    ensures bytes { AppendsWhole (K.held sink.old) (K.held sink.new) result (flat_map (λ line. line) (numbered_lines 1 lines.now)) }
+    ensures cause { HasCause (K.faults sink.old) (K.faults sink.new) result }
+{
+    for (i, line) in lines.iter().enumerate() {
+        write_whole(sink, numbered_line(i as u64 + 1, line).bytes())?;
+    }
+    Ok(())
+}
+
+/// Writes the text of a derivation, version 1: a line `derivation 1`; each line with its number, from 1 on, its question, its
+/// step and, where it names any, the lines that it names; and `end` with the number of lines. No line names more than
+/// `PREMISES_MAX` others. `Failed` comes only where the sink failed, and then a front of the text was appended.
+pub fn print_v1<K: Sink>(lines: &Derivation, sink: &mut K) -> Result<(), Failed>
+    requires few { All (λ l. length l.from ≤ PREMISES_MAX) lines.now }
+    ensures bytes { AppendsWhole (K.held sink.old) (K.held sink.new) result (flat_map (λ line. line) (derivation_lines lines.now)) }
+    ensures cause { HasCause (K.faults sink.old) (K.faults sink.new) result }
+{
+    write_whole(sink, counted_line("derivation", 1).bytes())?;
+    write_numbered(lines.as_slice(), sink)?;
+    write_whole(sink, counted_line("end", lines.len() as u64).bytes())
+}
