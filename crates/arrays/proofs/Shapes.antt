@@ -1,10 +1,10 @@
 -- The first bad line, and the shape of lines none of which is bad.
-use Rattle.std.proofs.Common.{Bool, List, None, Option, Some, [], ap, arith, false, get_or, length, min, not, refl, sym, take, true, ℕ, ◌*◌, ◌+◌, ◌<◌, ◌==◌, ◌∙◌, ◌≡◌, ◌≤◌}
+use Rattle.std.proofs.Common.{Bool, List, None, Option, Some, [], ap, arith, false, get_or, length, min, not, refl, subst, sym, take, true, ℕ, ◌*◌, ◌+◌, ◌<◌, ◌==◌, ◌&&◌, ◌∙◌, ◌≡◌, ◌≤◌}
 use Rattle.std.proofs.Math.Seq.{take-length}
 use Rattle.std.proofs.lemmas.Bool.{and_parts, eqb-true, ltb-true}
 use Rattle.std.proofs.lemmas.Bool.Decides.{nat_tests}
 use Rattle.std.proofs.lemmas.List.{get_or-take, get_or_default, length-take}
-use Rattle.std.proofs.lemmas.List.Sums.{AllPass-from_list_all, fails_before_first, position_or_len_is}
+use Rattle.std.proofs.lemmas.List.Sums.{AllPass-from_list_all, fails_before_first, list_all-from_AllPass, position_or_len_is}
 use Rattle.std.specs.List.{list_all, position}
 use Rattle.std.specs.Option.{option_or}
 use Rattle.std.specs.Prelude.{All, if◌then◌else◌, nat_lt, option_map}
@@ -53,6 +53,25 @@ test_is k n L j none l = let f = none_place (λ line. not (is_row k n line)) L j
 pub rows_from_none : (k n : ℕ) (L : List (List ℕ)) → bad_row k n L ≡ None → All (IsRow k n) L
 rows_from_none k n L none = λ i d l. row_from_test k n (get_or L i d) (ap (is_row k n) (get_or_default L i d [] l) ∙ test_is k n L i none l)
 
+test_from_row : (k n : ℕ) (line : List ℕ) → IsRow k n line → is_row k n line ≡ true
+unfolding is_row
+test_from_row k n line row =
+    both _ _ (is_equal (length line) k row.size) (list_all-from_AllPass (λ a. nat_lt a n) line (λ i d l. is_less (get_or line i d) n (row.below i d l)))
+  where
+    both : (a b : Bool) → a ≡ true → b ≡ true → (a && b) ≡ true
+    both true b e f = f
+    both false b e f = e
+
+    is_equal : (a b : ℕ) → a ≡ b → (a == b) ≡ true
+    is_equal a b e = grind (arith, nat_tests)
+
+    is_less : (a b : ℕ) → a < b → nat_lt a b ≡ true
+    is_less a b l = grind (arith, nat_tests)
+
+pub none_from_rows : (k n : ℕ) (L : List (List ℕ)) → All (IsRow k n) L → bad_row k n L ≡ None
+none_from_rows k n L rows =
+    subst (λ lines. bad_row k n lines ≡ None) (take-length L) (bad_row_none k n (length L) L (length L) (omega arith) (λ j l. test_from_row k n (get_or L j []) (rows j [] l)))
+
 -- squares none of whose lines is bad
 neither : (a b : Option ℕ) → option_or a b ≡ None → (a ≡ None) × (b ≡ None)
 neither None b e = (refl, e)
@@ -65,6 +84,14 @@ count_from_none wanted count e = by_test (count == wanted) refl e
     by_test : (t : Bool) → count == wanted ≡ t → (if t then None else Some (min count wanted + 1)) ≡ None → count ≡ wanted
     by_test true h g = eqb-true count wanted h
     by_test false h g = cc
+
+pub none_from_squares : (m n : ℕ) (L : List (List ℕ)) → length L ≡ m * n → All (IsRow n n) L → bad_line m n L ≡ None
+unfolding bad_line bad_count
+none_from_squares m n L count rows =
+    rw (ap (λ wanted. take wanted L) (sym count) ∙ take-length L, none_from_rows n n L rows, is_equal (length L) (m * n) count) refl
+  where
+    is_equal : (a b : ℕ) → a ≡ b → (a == b) ≡ true
+    is_equal a b e = grind (arith, nat_tests)
 
 pub squares_from_none : (m n : ℕ) (L : List (List ℕ)) → bad_line m n L ≡ None → (length L ≡ m * n) × All (IsRow n n) L
 unfolding bad_line

@@ -8,8 +8,9 @@ use Rattle.std.proofs.lemmas.List.Sums.{fails_before_first, position_or_len_is}
 use Rattle.std.proofs.lemmas.List.Quantifiers.{position-Some}
 use Rattle.std.specs.Prelude.{IsSomeAnd, position}
 use Rattle.design_checks.proofs.Search.{position_none}
-use Rattle.design_lines.specs.BlockLines.{AddsLine, block_line, is_row, with_row}
-use Rattle.design_cli.specs.BlockText.{is_feed, lines_of, BlockText, blocks, bad_line, behind, with_line, read_from, block_text}
+use Rattle.design_lines.specs.BlockLines.{block_line, with_row}
+use Rattle.design_cli.specs.BlockText.{is_feed, lines_of, BlockText, blocks, bad_line, behind, with_line, read_from, block_text, shortened, until_short}
+use Rattle.design_cli.proofs.Shortened.{bad_before, shortened-behind}
 
 -- rows behind rows
 behind-behind : (rows more : List (List ℕ)) (text : BlockText) → behind rows (behind more text) ≡ behind (rows ++ more) text
@@ -36,40 +37,48 @@ lines_last text end is all =
     ∙ ap (λ line. line ∷ []) (sym (take_all end text (omega (arith, all))))
 
 -- one more line was read
-pub block_text-more : (text : List ℕ) (old new : List (List ℕ)) (place end : ℕ) (rest : List ℕ) (added : Bool) → block_text text ≡ behind old (read_from place (lines_of rest)) → end ≡ position_or_len is_feed rest → end < length rest
-    → AddsLine old new (take end rest) added → block_text text ≡ behind new (read_from (place + 1) (lines_of (drop (end + 1) rest)))
+pub block_text-more : (least : ℕ) (text : List ℕ) (old new : List (List ℕ)) (place end : ℕ) (rest : List ℕ) → shortened least (block_text text) ≡ shortened least (behind old (read_from place (lines_of rest)))
+    → end ≡ position_or_len is_feed rest → end < length rest → IsSomeAnd (block_line (take end rest)) (λ row. new ≡ until_short least (with_row old row))
+    → shortened least (block_text text) ≡ shortened least (behind new (read_from (place + 1) (lines_of (drop (end + 1) rest))))
 unfolding read_from
-block_text-more text old new place end rest added before is within adds = of (block_line (take end rest)) refl adds
+block_text-more least text old new place end rest before is within adds = of (block_line (take end rest)) refl adds
   where
-    of : (o : Option (List ℕ)) → block_line (take end rest) ≡ o → IsSomeAnd o (λ row. (new ≡ with_row old row) × (added ≡ is_row row)) → block_text text ≡ behind new (read_from (place + 1) (lines_of (drop (end + 1) rest)))
+    later : BlockText
+    later = read_from (place + 1) (lines_of (drop (end + 1) rest))
+
+    of : (o : Option (List ℕ)) → block_line (take end rest) ≡ o → IsSomeAnd o (λ row. new ≡ until_short least (with_row old row)) → shortened least (block_text text) ≡ shortened least (behind new later)
     of None reads h = absurd h
     of (Some row) reads h =
-        before ∙ ap (λ lines. behind old (read_from place lines)) (lines_more rest end is within)
-        ∙ behind-with_line old place (take end rest) row (read_from (place + 1) (lines_of (drop (end + 1) rest))) reads
-        ∙ ap (λ rows. behind rows (read_from (place + 1) (lines_of (drop (end + 1) rest)))) (sym h.0)
+        before
+        ∙ ap (λ lines. shortened least (behind old (read_from place lines))) (lines_more rest end is within)
+        ∙ ap (shortened least) (behind-with_line old place (take end rest) row later reads)
+        ∙ sym (shortened-behind least (with_row old row) later)
+        ∙ ap (λ rows. shortened least (behind rows later)) (sym h)
 
 -- the last line was read
-pub block_text-last : (text : List ℕ) (old new : List (List ℕ)) (place end : ℕ) (rest : List ℕ) (added : Bool) → block_text text ≡ behind old (read_from place (lines_of rest)) → end ≡ position_or_len is_feed rest → end ≡ length rest
-    → AddsLine old new (take end rest) added → block_text text ≡ blocks new
+pub block_text-last : (least : ℕ) (text : List ℕ) (old new : List (List ℕ)) (place end : ℕ) (rest : List ℕ) → shortened least (block_text text) ≡ shortened least (behind old (read_from place (lines_of rest)))
+    → end ≡ position_or_len is_feed rest → end ≡ length rest → IsSomeAnd (block_line (take end rest)) (λ row. new ≡ until_short least (with_row old row)) → shortened least (block_text text) ≡ blocks new
 unfolding read_from
-block_text-last text old new place end rest added before is all adds = of (block_line (take end rest)) refl adds
+block_text-last least text old new place end rest before is all adds = of (block_line (take end rest)) refl adds
   where
-    of : (o : Option (List ℕ)) → block_line (take end rest) ≡ o → IsSomeAnd o (λ row. (new ≡ with_row old row) × (added ≡ is_row row)) → block_text text ≡ blocks new
+    of : (o : Option (List ℕ)) → block_line (take end rest) ≡ o → IsSomeAnd o (λ row. new ≡ until_short least (with_row old row)) → shortened least (block_text text) ≡ blocks new
     of None reads h = absurd h
     of (Some row) reads h =
-        before ∙ ap (λ lines. behind old (read_from place lines)) (lines_last rest end is all)
-        ∙ behind-with_line old place (take end rest) row (blocks []) reads
-        ∙ ap blocks (append-nil (with_row old row) ∙ sym h.0)
+        before
+        ∙ ap (λ lines. shortened least (behind old (read_from place lines))) (lines_last rest end is all)
+        ∙ ap (shortened least) (behind-with_line old place (take end rest) row (blocks []) reads)
+        ∙ ap (λ rows. blocks (until_short least rows)) (append-nil (with_row old row))
+        ∙ ap blocks (sym h)
 
 -- a bad line is the first one
-pub block_text-bad : (text : List ℕ) (old : List (List ℕ)) (place end : ℕ) (rest : List ℕ) → block_text text ≡ behind old (read_from place (lines_of rest)) → end ≡ position_or_len is_feed rest → end ≤ length rest
-    → block_line (take end rest) ≡ None → block_text text ≡ bad_line place
+pub block_text-bad : (least : ℕ) (text : List ℕ) (old : List (List ℕ)) (place end : ℕ) (rest : List ℕ) → shortened least (block_text text) ≡ shortened least (behind old (read_from place (lines_of rest)))
+    → end ≡ position_or_len is_feed rest → end ≤ length rest → block_line (take end rest) ≡ None → block_text text ≡ bad_line place
 unfolding read_from
-block_text-bad text old place end rest before is within bad =
-    before ∙ elim (cases_lt end (length rest)) [
+block_text-bad least text old place end rest before is within bad =
+    bad_before least (block_text text) place (before ∙ ap (shortened least) (elim (cases_lt end (length rest)) [
       | inl more ↦ ap (λ lines. behind old (read_from place lines)) (lines_more rest end is more) ∙ ap (λ r. behind old (with_line place r (read_from (place + 1) (lines_of (drop (end + 1) rest))))) bad
       | inr all ↦ ap (λ lines. behind old (read_from place lines)) (lines_last rest end is (omega arith)) ∙ ap (λ r. behind old (with_line place r (blocks []))) bad
-    ]
+    ]))
 
 -- before the first line
 pub block_text-first : (text : List ℕ) → block_text text ≡ behind [] (read_from 1 (lines_of text))

@@ -1,15 +1,13 @@
 -- What a verdict that is yes says of its step.
-use Rattle.std.proofs.Common.{◌≡◌, ◌≢◌, ℕ, ◌+◌, ◌-◌, ◌^◌, ◌≤◌, ◌%◌, ◌==◌, ◌&&◌, All, length, true, Option, Some, None, ap, arith, refl, subst, sym, ◌∙◌}
-use Rattle.std.specs.Prelude.{Err, IfOk, IsTrue, List, Ok, Result, nat_le}
+use Rattle.std.proofs.Common.{◌≡◌, ◌≢◌, ℕ, ◌+◌, ◌-◌, ◌^◌, ◌≤◌, ◌%◌, ◌==◌, ◌&&◌, true, Option, Some, None, ap, arith, refl, subst, sym, ◌∙◌}
+use Rattle.std.specs.Prelude.{nat_le}
 use Rattle.std.specs.Option.{option_map, option_or}
 use Rattle.std.proofs.lemmas.Bool.{and_parts, cond_both, eqb-true}
 use Rattle.std.proofs.lemmas.Bool.Decides.{nat_tests}
-use Rattle.std.proofs.lemmas.List.Elements.{All-weaker}
 use Rattle.design_base.specs.Blocks.{IsBibd}
 use Rattle.design_base.specs.Fields.{has_field}
 use Rattle.design_base.specs.Limits.{in_bounds, within}
 use Rattle.design_base.specs.declared.limits.TheConstants.{COVER_MAX, POINTS_MAX}
-use Rattle.design_base.specs.declared.query.Query.{Query}
 use Rattle.design_base.specs.declared.query.Query.TheVariants.{Bibd}
 use Rattle.design_base.specs.declared.rule.Rule.{Rule}
 use Rattle.design_base.specs.declared.rule.Rule.TheVariants.{Bose, Affine, Projective}
@@ -17,10 +15,9 @@ use Rattle.design_base.specs.declared.verdict.Verdict.{Verdict}
 use Rattle.design_base.specs.declared.verdict.Verdict.TheVariants.{Yes}
 use Rattle.design_base.specs.Steps.{Step, step}
 use Rattle.spaces.specs.Points.{point_count}
-use Rattle.triple_systems.proofs.Blocks.{block_sizes}
 use Rattle.triple_systems.proofs.BoseSystem.{bose_design}
 use Rattle.design_cli.proofs.LineDesigns.{listed_affine, listed_projective}
-use Rattle.design_cli.specs.Chosen.{triple_verdict, affine_verdict, projective_verdict, geometry_verdict, dimension_of, chosen, blocks_at, blocks_by}
+use Rattle.design_cli.specs.Chosen.{triple_verdict, affine_verdict, projective_verdict, geometry_verdict, dimension_of, chosen, blocks_at}
 use Rattle.spaces.specs.Lines.{affine_lines, projective_lines}
 
 -- a geometry over a listed field, on v points with k on each line, where f counts the points of each dimension
@@ -113,14 +110,6 @@ yes_designed v k l s is =
     let h = is_built v k l s is in
     subst (λ n. IsBibd (blocks_at (Bibd v k 1) s) v k n) (sym h.1) (step_designed s.rule v k s refl h.0)
 
--- its blocks have few points
-pub yes_printable : (v k l : ℕ) (s : Step) → chosen (Bibd v k l) ≡ Some (Yes s) → k ≤ POINTS_MAX → All (λ row. length row ≤ POINTS_MAX) (blocks_at (Bibd v k l) s)
-yes_printable v k l s is few = All-weaker (λ b. length b ≡ k) (λ b. length b ≤ POINTS_MAX) (λ b e. omega arith) _ (block_sizes (blocks_at (Bibd v k l) s) v (λ n. n ≡ k) _ (yes_designed v k l s is))
-
--- the same of a question and a step that are those of the verdict
-pub asked : (q : Query) (v k l : ℕ) (s t : Step) → q ≡ Bibd v k l → chosen q ≡ Some (Yes t) → s ≡ t → chosen (Bibd v k l) ≡ Some (Yes s)
-asked q v k l s t is answered same = ap chosen (sym is) ∙ answered ∙ ap (λ s. Some (Yes s)) (sym same)
-
 -- what the code of each rule needs
 pub affine_step : (v k l : ℕ) (s : Step) → chosen (Bibd v k l) ≡ Some (Yes s) → s.rule ≡ Affine → IsGeometry powers_of v s
 affine_step v k l s is e = (subst (λ rule. IsBuilt rule v k s) e (is_built v k l s is).0).0
@@ -145,18 +134,11 @@ is_le : (a b : ℕ) → nat_le a b ≡ true → a ≤ b
 is_le a b e = grind (arith, nat_tests)
 
 -- a question within the limits has few points, on a block too
-pub few_points : (q : Query) (v k l : ℕ) → q ≡ Bibd v k l → IsTrue (in_bounds q) → (v ≤ POINTS_MAX) × (k ≤ POINTS_MAX)
+pub few_points : (v k l : ℕ) → in_bounds (Bibd v k l) ≡ true → (v ≤ POINTS_MAX) × (k ≤ POINTS_MAX)
 unfolding in_bounds
-few_points q v k l is bounds =
-    let parts = and_parts (within 2 v k && nat_le v POINTS_MAX) (within 1 COVER_MAX l) (subst (λ q. in_bounds q ≡ true) is bounds) in
+few_points v k l bounds =
+    let parts = and_parts (within 2 v k && nat_le v POINTS_MAX) (within 1 COVER_MAX l) bounds in
     let points = and_parts (within 2 v k) (nat_le v POINTS_MAX) parts.0 in
     let size = and_parts (nat_le 2 k) (nat_le k v) points.0 in
     let few : v ≤ POINTS_MAX = is_le v POINTS_MAX points.1 in
     (few, omega (arith, is_le k v size.1, few))
-
--- blocks that were made are those that are known
-pub made_printable : {E : Type 0} (result : Result (List (List ℕ)) E) (rule : Rule) (v k l : ℕ) (s : Step) → chosen (Bibd v k l) ≡ Some (Yes s) → s.rule ≡ rule → k ≤ POINTS_MAX → IfOk result (λ rows. rows ≡ blocks_by rule v s)
-    → IfOk result (λ rows. All (λ row. length row ≤ POINTS_MAX) rows)
-made_printable (Ok rows) rule v k l s is e few made =
-    subst (λ B. All (λ row. length row ≤ POINTS_MAX) B) (ap (λ r. blocks_by r v s) e ∙ sym made) (yes_printable v k l s is few)
-made_printable (Err error) rule v k l s is e few made = tt

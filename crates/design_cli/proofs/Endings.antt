@@ -3,11 +3,12 @@ use Rattle.std.proofs.Common.{◌≡◌, ℕ, ◌<◌, ◌≤◌, List, Option, 
 use Rattle.std.specs.Prelude.{IfSome, nat_le}
 use Rattle.std.proofs.lemmas.Bool.Decides.{nat_tests}
 use Rattle.design_cli.specs.declared.ending.Ending.{Ending}
-use Rattle.design_cli.specs.declared.ending.Ending.TheVariants.{Yes, No, Refused, NotBuilt, BadInput, ReadFault, NoMemory, WriteFault}
+use Rattle.design_cli.specs.declared.ending.Ending.TheVariants.{Yes, No, Unknown, Refused, NotBuilt, BadInput, ReadFault, NoMemory, WriteFault}
 use Rattle.design_cli.specs.Endings.{status_of, message_of, ending_at}
 use Rattle.design_cli.specs.Report.{Report, check_report, text_report}
 use Rattle.design_cli.specs.BlockText.{block_text}
 use Rattle.design_base.specs.declared.query.Query.{Query}
+use Rattle.design_lines.specs.declared.command.Shape.{Shape}
 use Rattle.design_base.specs.declared.limits.TheConstants.{INPUT_MAX}
 use Rattle.design_io.specs.declared.reading.ReadEnd.TheVariants.{Failed, TooLong, Memory}
 use Rattle.design_io.specs.declared.reading.ReadEnd.{ReadEnd}
@@ -19,6 +20,7 @@ use Rattle.design_cli.specs.Runs.{EndsWith, HasFault, IsAnswer, IsSilent, messag
 pub message_told : (report : Option Report) (ending : Ending) (old new : Option (List ℕ)) (P : List ℕ → Type 0) → IfSome report (λ r. EndsWith r ending old new) → P (message_of ending) → IfSome (message_at report (status_of ending)) P
 message_told None Yes old new P ends said = tt
 message_told None No old new P ends said = tt
+message_told None Unknown old new P ends said = tt
 message_told None (Refused reason) old new P ends said = tt
 message_told None NotBuilt old new P ends said = tt
 message_told None (BadInput line) old new P ends said = tt
@@ -27,6 +29,7 @@ message_told None NoMemory old new P ends said = said
 message_told None WriteFault old new P ends said = said
 message_told (Some r) Yes old new P ends said = subst (λ e. P (message_of e)) ends.0 said
 message_told (Some r) No old new P ends said = subst (λ e. P (message_of e)) ends.0 said
+message_told (Some r) Unknown old new P ends said = subst (λ e. P (message_of e)) ends.0 said
 message_told (Some r) (Refused reason) old new P ends said = subst (λ e. P (message_of e)) ends.0 said
 message_told (Some r) NotBuilt old new P ends said = subst (λ e. P (message_of e)) ends.0 said
 message_told (Some r) (BadInput line) old new P ends said = subst (λ e. P (message_of e)) ends.0 said
@@ -41,18 +44,18 @@ is_within : (limit n : ℕ) → n ≤ limit → nat_le n limit ≡ true
 is_within limit n within = grind (arith, nat_tests)
 
 -- an answer to an input that was not read ends as the report of every input that is too long, or has a cause of its own
-pub unread_ends : (q : Query) (left : Option (List ℕ)) (end : ReadEnd) (held : Option (List ℕ)) → IsTooLong left INPUT_MAX end → IfSome left (λ text. EndsWith (check_report q text) (ending_at end) held held)
-unread_ends q None end held long = tt
-unread_ends q (Some text) Failed held long = Keeps-refl held
-unread_ends q (Some text) (TooLong line) held long = rw (is_above INPUT_MAX (length text) long.0) (ap BadInput long.1, Appends-nil held)
-unread_ends q (Some text) Memory held long = Keeps-refl held
+pub unread_ends : (q : Query) (shape : Shape) (left : Option (List ℕ)) (end : ReadEnd) (held : Option (List ℕ)) → IsTooLong left INPUT_MAX end → IfSome left (λ text. EndsWith (check_report q shape text) (ending_at end) held held)
+unread_ends q shape None end held long = tt
+unread_ends q shape (Some text) Failed held long = Keeps-refl held
+unread_ends q shape (Some text) (TooLong line) held long = rw (is_above INPUT_MAX (length text) long.0) (ap BadInput long.1, Appends-nil held)
+unread_ends q shape (Some text) Memory held long = Keeps-refl held
 
 -- an input that was read whole is answered by its blocks
-pub read_ends : (q : Query) (left after : Option (List ℕ)) (all : List ℕ) (ending : Ending) (old new : Option (List ℕ)) → TakesAll left after all → length all ≤ INPUT_MAX → EndsWith (text_report q (block_text all)) ending old new
-    → IfSome left (λ text. EndsWith (check_report q text) ending old new)
-read_ends q None after all ending old new takes short ends = tt
-read_ends q (Some text) after all ending old new takes short ends =
-    rw (is_within INPUT_MAX (length text) (subst (λ xs. length xs ≤ INPUT_MAX) takes.0 short)) (subst (λ xs. EndsWith (text_report q (block_text xs)) ending old new) takes.0 ends)
+pub read_ends : (q : Query) (shape : Shape) (left after : Option (List ℕ)) (all : List ℕ) (ending : Ending) (old new : Option (List ℕ)) → TakesAll left after all → length all ≤ INPUT_MAX → EndsWith (text_report q shape (block_text all)) ending old new
+    → IfSome left (λ text. EndsWith (check_report q shape text) ending old new)
+read_ends q shape None after all ending old new takes short ends = tt
+read_ends q shape (Some text) after all ending old new takes short ends =
+    rw (is_within INPUT_MAX (length text) (subst (λ xs. length xs ≤ INPUT_MAX) takes.0 short)) (subst (λ xs. EndsWith (text_report q shape (block_text xs)) ending old new) takes.0 ends)
 
 pub unread_silent : (end : ReadEnd) (held : Option (List ℕ)) → IsSilent (ending_at end) held held
 unread_silent Failed held = Keeps-refl held

@@ -1,7 +1,10 @@
 -- Block text: each line is blank or holds the numbers of a block.
-use Rattle.std.specs.Prelude.{◌≡◌, ℕ, ◌+◌, ◌==◌, Bool, List, [], ◌∷◌, ◌++◌, Option, Some, None, ⊤}
+use Rattle.std.specs.Prelude.{◌≡◌, ℕ, ◌+◌, ◌==◌, nat_lt, Bool, List, [], ◌∷◌, ◌++◌, length, Option, Some, None, ⊤, if◌then◌else◌}
 use Rattle.std.specs.List.{slice_split}
 use Rattle.design_lines.specs.BlockLines.{block_line, with_row}
+use Rattle.design_lines.specs.declared.command.Shape.{Shape}
+use Rattle.design_lines.specs.declared.command.Shape.TheVariants.{Blocks, Rows, Squares}
+use Rattle.design_cli.specs.declared.checking.TheConstants.{SHORTEST_BLOCK}
 use Rattle.design_cli.specs.declared.blocks.BlockTextEnd.{BlockTextEnd}
 use Rattle.design_cli.specs.declared.blocks.BlockTextEnd.TheVariants.{BadLine, Memory}
 
@@ -35,6 +38,23 @@ read_from place (line ∷ lines) = with_line place (block_line line) (read_from 
 -- the blocks of a text; places count from 1
 unfoldable pub block_text : List ℕ → BlockText
 block_text text = read_from 1 (lines_of text)
+
+-- the rows up to the first that has fewer numbers than `least`
+unfoldable pub until_short : ℕ → List (List ℕ) → List (List ℕ)
+until_short least [] = []
+until_short least (row ∷ rows) = if nat_lt (length row) least then row ∷ [] else row ∷ until_short least rows
+
+-- what is read of an input: a block has two points at least, and so has a row two symbols, but squares of order 1 have
+-- lines of one
+abbrev pub shortest_line : Shape → ℕ
+shortest_line Blocks = SHORTEST_BLOCK
+shortest_line Rows = SHORTEST_BLOCK
+shortest_line Squares = 0
+
+-- the same of the blocks of a text
+abbrev pub shortened : ℕ → BlockText → BlockText
+shortened least (bad_line place) = bad_line place
+shortened least (blocks rows) = blocks (until_short least rows)
 
 -- the text is bad at the line that is named
 abbrev pub IsBadText : List ℕ → BlockTextEnd → Type 0

@@ -1,6 +1,9 @@
 pub mod Endings
 pub mod BlockText
 pub mod Texts
+pub mod Parts
+pub mod LineFindings
 pub mod Chosen
+pub mod Designs
 pub mod Report
 pub mod Runs

@@ -1,5 +1,5 @@
 -- The lines that the program prints.
-use Rattle.std.specs.Prelude.{ℕ, List, [], ◌∷◌, map, codes}
+use Rattle.std.specs.Prelude.{ℕ, List, [], ◌∷◌, map, codes, Option, None, Some}
 use Rattle.std.specs.Fmt.{decimal}
 use Rattle.design_base.specs.declared.query.Query.{Query}
 use Rattle.design_base.specs.declared.verdict.Verdict.{Verdict}
@@ -26,27 +26,14 @@ verdict_words Unknown = codes "unknown" ∷ []
 unfoldable pub verdict_line : Query → Verdict → List ℕ
 verdict_line q verdict = line_of (question_text q ∷ verdict_words verdict)
 
--- a word and a number
-unfoldable pub counted_line : List ℕ → ℕ → List ℕ
-counted_line word number = line_of (word ∷ decimal number ∷ [])
-
--- line 1 of a derivation, which names no premise
-unfoldable pub step_line : Query → Step → List ℕ
-step_line q step = line_of (codes "1" ∷ question_text q ∷ step_text step ∷ [])
+-- the two numbers that a criterion compares
+abbrev pub because_lines : Option (ℕ × ℕ) → List (List ℕ)
+because_lines None = []
+because_lines (Some numbers) = line_of (codes "because" ∷ decimal numbers.0 ∷ decimal numbers.1 ∷ []) ∷ []
 
 -- the numbers of a row
 abbrev pub row_line : List ℕ → List ℕ
 row_line row = line_of (map decimal row)
-
--- the verdict yes, its derivation, and the number of the blocks
-unfoldable pub head_lines : Query → Step → ℕ → List (List ℕ)
-head_lines q step count =
-    verdict_line q (Yes step)
-    ∷ counted_line (codes "derivation") 1
-    ∷ step_line q step
-    ∷ counted_line (codes "end") 1
-    ∷ counted_line (codes "blocks") count
-    ∷ []
 
 abbrev pub finding_words : Finding → List (List ℕ)
 finding_words Valid = codes "valid" ∷ []

@@ -1,23 +1,29 @@
 //! The answer to `check`: what the check of the input's blocks finds.
-ghost use Rattle.std.specs.Prelude.{◌≡◌, ◌≢◌, ◌≤◌, IfSome, length, true};
+ghost use Rattle.std.specs.Prelude.{◌≡◌, ◌≢◌, ◌≤◌, IfOk, IfSome, length, true};
 ghost use Rattle.design_base.specs.Limits.{in_bounds};
 ghost use Rattle.design_base.specs.declared.limits.TheConstants.{INPUT_MAX};
 ghost use Rattle.design_io.specs.Faults.{Rose};
 ghost use Rattle.design_checks.specs.Findings.{finding as finding_of};
 ghost use Rattle.design_cli.specs.Report.{check_report, found_report, text_report};
-ghost use Rattle.design_cli.specs.BlockText.{block_text};
+ghost use Rattle.design_cli.specs.BlockText.{block_text, shortest_line};
+ghost use Rattle.design_cli.specs.LineFindings.{IsFoundIn, lines_finding};
 ghost use Rattle.design_cli.specs.Endings.{ending_at};
 ghost use Rattle.design_cli.specs.Runs.{EndsWith, HasFault, HasReadFault, IsAnswer, IsSilent};
 
 use crate::blocks::{BlockTextEnd, read_blocks};
 use crate::ending::Ending;
 use crate::lines::write_finding;
+use arrays::{ArrayEnd, td_of_rows, td_of_squares};
 use design_base::{INPUT_MAX, Memory, Query};
 use design_checks::{Finding, Scratch, check};
 use design_io::{Failed, ReadEnd, Sink, Source, read_all};
+use design_lines::Shape;
 use field_tables::Fields;
 use incidence::Rows;
 use std::alloc::Global;
+
+/// A block has at least so many points in any design that is asked for.
+const SHORTEST_BLOCK: usize = 2;
 
 // What a check needs: the fields, and room for its counts.
 #[derive(Drop)]
@@ -52,27 +58,89 @@ fn answer_finding<K: Sink>(query: &Query, finding: Finding, out: &mut K) -> Endi
     }
 }
 
-// Checks the blocks of a text, the numbers of each in increasing order. The text goes before the tools come, so that the
-// memory for both is never held at once.
-fn answer_text<K: Sink>(alloc: Global, query: &Query, text: Vec<u8>, out: &mut K) -> Ending
+// What the check of blocks finds.
+fn found_in_blocks(alloc: Global, query: &Query, blocks: &Rows) -> Result<Finding, Memory>
+    requires { in_bounds query.now ≡ true }
+    ensures { IfOk result (λ found. found ≡ finding_of query.now blocks.now) }
+{
+    let mut tools = Tools::open(alloc)?;
+    Ok(check(query, blocks, &tools.fields, &mut tools.scratch))
+}
+
+// What the check of the blocks that lines stand for finds, or that a line is bad.
+fn found_in_td(
+    alloc: Global,
+    query: &Query,
+    blocks: Result<Rows, ArrayEnd>,
+) -> Result<Finding, Memory>
+    requires { in_bounds query.now ≡ true }
+    ensures { IfOk result (IsFoundIn query.now blocks) }
+{
+    match blocks {
+        Ok(blocks) => found_in_blocks(alloc, query, &blocks),
+        Err(ArrayEnd::BadLine { index }) => Ok(Finding::BadBlock { index }),
+        Err(ArrayEnd::Memory) => Err(Memory),
+    }
+}
+
+// What the check of lines in a shape finds.
+fn found_in_lines(
+    alloc: Global,
+    query: &Query,
+    shape: Shape,
+    mut lines: Rows,
+) -> Result<Finding, Memory>
+    requires { in_bounds query.now ≡ true }
+    ensures { IfOk result (λ found. found ≡ lines_finding query.now shape lines) }
+{
+    match (*query, shape) {
+        (Query::Td { k, n }, Shape::Rows) => {
+            found_in_td(alloc, query, td_of_rows(alloc, k, n, &lines))
+        }
+        (Query::Td { k, n }, Shape::Squares) => {
+            found_in_td(alloc, query, td_of_squares(alloc, k, n, &lines))
+        }
+        _ => {
+            lines.sort_each();
+            found_in_blocks(alloc, query, &lines)
+        }
+    }
+}
+
+// No more lines are kept than up to the first that has fewer numbers. Such a one is no block, and no row of an array.
+fn shortest(shape: Shape) -> usize
+    ensures { result ≡ shortest_line shape }
+{
+    match shape {
+        Shape::Blocks | Shape::Rows => SHORTEST_BLOCK,
+        Shape::Squares => 0,
+    }
+}
+
+// Checks the lines of a text. The text goes before the tools come, so that the memory for both is never held at once.
+fn answer_text<K: Sink>(
+    alloc: Global,
+    query: &Query,
+    shape: Shape,
+    text: Vec<u8>,
+    out: &mut K,
+) -> Ending
     requires bounds { in_bounds query.now ≡ true }
     requires short { length text.items ≤ INPUT_MAX }
-    ensures ends { EndsWith (text_report query.now (block_text text.items)) result (K.held out.old) (K.held out.new) }
+    ensures ends { EndsWith (text_report query.now shape (block_text text.items)) result (K.held out.old) (K.held out.new) }
     ensures cause { HasFault result (K.faults out.old) (K.faults out.new) }
     ensures answered { IsAnswer result }
     ensures no_read { result ≢ Ending.ReadFault }
 {
-    let mut rows = match read_blocks(alloc, &text) {
-        Ok(rows) => rows,
+    let lines = match read_blocks(alloc, &text, shortest(shape)) {
+        Ok(lines) => lines,
         Err(BlockTextEnd::BadLine { line }) => return Ending::BadInput { line },
         Err(BlockTextEnd::Memory) => return Ending::NoMemory,
     };
     drop(text);
-    let Ok(mut tools) = Tools::open(alloc) else {
+    let Ok(finding) = found_in_lines(alloc, query, shape, lines) else {
         return Ending::NoMemory;
     };
-    rows.sort_each();
-    let finding = check(query, &rows, &tools.fields, &mut tools.scratch);
     answer_finding(query, finding, out)
 }
 
@@ -92,11 +160,12 @@ fn unread_ending(end: ReadEnd) -> Ending
 pub fn answer_check<S: Source, K: Sink>(
     alloc: Global,
     query: &Query,
+    shape: Shape,
     input: &mut S,
     out: &mut K,
 ) -> Ending
     requires { in_bounds query.now ≡ true }
-    ensures ends { IfSome (S.left input.old) (λ text. EndsWith (check_report query.now text) result (K.held out.old) (K.held out.new)) }
+    ensures ends { IfSome (S.left input.old) (λ text. EndsWith (check_report query.now shape text) result (K.held out.old) (K.held out.new)) }
     ensures cause { HasFault result (K.faults out.old) (K.faults out.new) }
     ensures read_cause { HasReadFault result (S.faults input.old) (S.faults input.new) }
     ensures silent { IsSilent result (K.held out.old) (K.held out.new) }
@@ -106,5 +175,5 @@ pub fn answer_check<S: Source, K: Sink>(
         Ok(text) => text,
         Err(end) => return unread_ending(end),
     };
-    answer_text(alloc, query, text, out)
+    answer_text(alloc, query, shape, text, out)
 }

@@ -1,17 +1,17 @@
 //! How the answer to a line ends, and what is then said on the error output.
-ghost use Rattle.std.specs.Prelude.{◌≡◌, ◌<◌, ◌≤◌, [], ◌∷◌, length};
-ghost use Rattle.std.specs.Fmt.{decimal};
+ghost use Rattle.std.specs.Prelude.{◌≡◌, ◌≤◌, [], ◌∷◌, length};
 ghost use Rattle.design_lines.specs.Printed.{line_of};
 ghost use Rattle.design_cli.specs.Endings.{status_of, refusal_line, message_of};
 
 use crate::status::Status;
-use design_lines::{Line, Reason};
+use design_lines::{Line, Reason, counted_line};
 
 /// How an answer ends.
 #[derive(Clone, Copy, Debug, PartialEq, Eq)]
 pub enum Ending {
     Yes,
     No,
+    Unknown,
     /// The words are refused.
     Refused { reason: Reason },
     /// The words are in the grammar, and no line yet answers them.
@@ -34,29 +34,15 @@ fn said(text: &str) -> Line
     line
 }
 
-// A text and a number, ended as a line.
-#[tactic(auto, using(crate::proofs::Words::line_of_two))]
-fn said_at(text: &str, number: u64) -> Line
-    requires started { 0 < length text.now }
-    requires short { length text.now ≤ 100 }
-    ensures { result ≡ line_of (text.now ∷ decimal number ∷ []) }
-{
-    let mut line = Line::new();
-    line.push_word(text.as_bytes());
-    line.push_number(number);
-    line.end();
-    line
-}
-
 // What is said of words that are refused.
 fn refusal(reason: Reason) -> Line
     ensures { result ≡ refusal_line reason }
 {
     match reason {
-        Reason::Missing { at } => said_at("usage: missing word at", at),
-        Reason::Unknown { at } => said_at("usage: unknown word at", at),
-        Reason::Spelling { at } => said_at("usage: number spelling at", at),
-        Reason::Surplus { at } => said_at("usage: surplus word at", at),
+        Reason::Missing { at } => counted_line("usage: missing word at", at),
+        Reason::Unknown { at } => counted_line("usage: unknown word at", at),
+        Reason::Spelling { at } => counted_line("usage: number spelling at", at),
+        Reason::Surplus { at } => counted_line("usage: surplus word at", at),
         Reason::OutOfBounds => said("usage: out of bounds"),
     }
 }
@@ -69,6 +55,7 @@ impl Ending {
         match self {
             Ending::Yes => Status::Yes,
             Ending::No => Status::No,
+            Ending::Unknown => Status::Unknown,
             Ending::Refused { .. } | Ending::NotBuilt => Status::Usage,
             Ending::BadInput { .. } => Status::BadInput,
             Ending::ReadFault => Status::ReadFault,
@@ -83,10 +70,10 @@ impl Ending {
         ensures { result ≡ message_of self.now }
     {
         match *self {
-            Ending::Yes | Ending::No => Line::new(),
+            Ending::Yes | Ending::No | Ending::Unknown => Line::new(),
             Ending::Refused { reason } => refusal(reason),
             Ending::NotBuilt => said("usage: not built"),
-            Ending::BadInput { line } => said_at("bad input at line", u64::from(line)),
+            Ending::BadInput { line } => counted_line("bad input at line", u64::from(line)),
             Ending::ReadFault => said("read fault"),
             Ending::NoMemory => said("no memory"),
             Ending::WriteFault => said("write fault"),

@@ -2,13 +2,17 @@
 #![tactic(auto)]
 
 mod answering;
+mod asking;
 mod blocks;
 mod building;
 mod checking;
+mod designs;
 mod ending;
 mod geometries;
 mod lines;
+mod parts;
 mod status;
+mod verdicts;
 
 pub use answering::run;
 pub use status::Status;

@@ -1,16 +1,17 @@
 //! The lines of a report, each put together in place and written whole.
-ghost use Rattle.std.specs.Prelude.{◌≡◌, ◌+◌, ◌<◌, ◌≤◌, [], ◌∷◌, ◌++◌, length, map, All};
+ghost use Rattle.std.specs.Prelude.{◌≡◌, ◌<◌, ◌≤◌, [], ◌∷◌, All, Some, length, slice_range};
 ghost use Rattle.std.specs.Fmt.{decimal};
 ghost use Rattle.std.specs.List.{flat_map};
 ghost use Rattle.design_io.specs.Faults.{HasCause};
 ghost use Rattle.design_io.specs.Pieces.{AppendsWhole};
 ghost use Rattle.design_base.specs.declared.limits.TheConstants.{POINTS_MAX};
-ghost use Rattle.design_cli.specs.Texts.{verdict_line as verdict_text, counted_line as counted_text, step_line as step_text_line, row_line as row_text, head_lines as head_texts, finding_line as finding_text};
+ghost use Rattle.design_lines.specs.Printed.{counted_line as counted_text};
+ghost use Rattle.design_cli.specs.Texts.{because_lines as because_texts, finding_line as finding_text, row_line as row_text, verdict_line as verdict_text};
 
-use design_base::{Query, Step, Verdict};
+use design_base::{Query, Verdict};
 use design_checks::Finding;
 use design_io::{Failed, Sink, write_whole};
-use design_lines::{Line, criterion_name, question_text, row_line, step_text};
+use design_lines::{Line, counted_line, criterion_name, question_text, row_line, step_text};
 use incidence::Rows;
 
 /// The question and its verdict.
@@ -35,29 +36,15 @@ fn verdict_line(query: &Query, verdict: &Verdict) -> Line
     line
 }
 
-/// A word and a number.
-#[tactic(auto, using(crate::proofs::Words::line_of_two), unfolding(crate::specs::Texts::counted_line))]
-fn counted_line(word: &str, number: u64) -> Line
-    requires started { 0 < length word.now }
-    requires short { length word.now ≤ 100 }
-    ensures { result ≡ counted_text word.now number }
+// The two numbers that a criterion compares.
+#[tactic(auto, using(crate::proofs::Words::line_of_three))]
+fn because_line(first: u32, second: u32) -> Line
+    ensures { because_texts (Some (first, second)) ≡ result ∷ [] }
 {
     let mut line = Line::new();
-    line.push_word(word.as_bytes());
-    line.push_number(number);
-    line.end();
-    line
-}
-
-// The one line of a derivation.
-#[tactic(auto, unfolding(crate::specs::Texts::step_line))]
-fn step_line(query: &Query, step: &Step) -> Line
-    ensures { result ≡ step_text_line query.now step.now }
-{
-    let mut line = Line::new();
-    line.push_word(b"1");
-    line.push_word(question_text(query).bytes());
-    line.push_word(step_text(step).bytes());
+    line.push_word(b"because");
+    line.push_number(u64::from(first));
+    line.push_number(u64::from(second));
     line.end();
     line
 }
@@ -114,27 +101,35 @@ fn finding_line(query: &Query, finding: Finding) -> Line
     }
 }
 
-// Writes lines, one after another.
-#[tactic(auto, using(design_io::proofs::Pieces::composed))]
-fn write_lines<K: Sink>(out: &mut K, lines: &[Line]) -> Result<(), Failed>
-    ensures bytes { AppendsWhole (K.held out.old) (K.held out.new) result (flat_map (λ line. line) lines.now) }
+// Writes the numbers of a row on a line.
+fn write_row<K: Sink>(out: &mut K, row: &[u16]) -> Result<(), Failed>
+    requires { length row.now ≤ POINTS_MAX }
+    ensures bytes { AppendsWhole (K.held out.old) (K.held out.new) result (row_text row.now) }
     ensures cause { HasCause (K.faults out.old) (K.faults out.new) result }
 {
-    for line in lines {
-        write_whole(out, line.bytes())?;
-    }
-    Ok(())
+    write_whole(out, row_line(row).bytes())
 }
 
-// Writes the numbers of each row on a line.
-#[tactic(auto, using(design_io::proofs::Pieces::composed))]
-fn write_rows<K: Sink>(out: &mut K, rows: &Rows) -> Result<(), Failed>
-    requires { All (λ row. length row ≤ POINTS_MAX) rows.now }
-    ensures bytes { AppendsWhole (K.held out.old) (K.held out.new) result (flat_map row_text rows.now) }
+/// Writes a word and a number on a line.
+pub fn write_counted<K: Sink>(out: &mut K, word: &str, number: u64) -> Result<(), Failed>
+    requires started { 0 < length word.now }
+    requires short { length word.now ≤ 100 }
+    ensures bytes { AppendsWhole (K.held out.old) (K.held out.new) result (counted_text word.now number) }
     ensures cause { HasCause (K.faults out.old) (K.faults out.new) result }
 {
-    for i in 0..rows.len() {
-        write_whole(out, row_line(rows.row(i)).bytes())?;
+    write_whole(out, counted_line(word, number).bytes())
+}
+
+/// Writes the numbers of the rows from place `start` on, below place `end`, each row on a line.
+#[tactic(auto, using(crate::proofs::Outputs::rows_none))]
+pub fn write_rows<K: Sink>(out: &mut K, rows: &Rows, start: usize, end: usize) -> Result<(), Failed>
+    requires within { (start ≤ end) × (end ≤ length rows.now) }
+    requires printable { All (λ row. length row ≤ POINTS_MAX) rows.now }
+    ensures bytes { AppendsWhole (K.held out.old) (K.held out.new) result (flat_map row_text (slice_range rows.now start end)) }
+    ensures cause { HasCause (K.faults out.old) (K.faults out.new) result }
+{
+    for i in start..end {
+        write_row(out, rows.row(i))?;
     }
     Ok(())
 }
@@ -147,42 +142,18 @@ pub fn write_verdict<K: Sink>(out: &mut K, query: &Query, verdict: &Verdict) -> 
     write_whole(out, verdict_line(query, verdict).bytes())
 }
 
+/// Writes the two numbers that a criterion compares.
+pub fn write_because<K: Sink>(out: &mut K, first: u32, second: u32) -> Result<(), Failed>
+    ensures bytes { AppendsWhole (K.held out.old) (K.held out.new) result (flat_map (λ line. line) (because_texts (Some (first, second)))) }
+    ensures cause { HasCause (K.faults out.old) (K.faults out.new) result }
+{
+    write_whole(out, because_line(first, second).bytes())
+}
+
 /// Writes what the check of blocks found.
 pub fn write_finding<K: Sink>(out: &mut K, query: &Query, finding: Finding) -> Result<(), Failed>
     ensures bytes { AppendsWhole (K.held out.old) (K.held out.new) result (finding_text query.now finding) }
     ensures cause { HasCause (K.faults out.old) (K.faults out.new) result }
 {
     write_whole(out, finding_line(query, finding).bytes())
-}
-
-// Writes the lines before the blocks.
-#[tactic(auto, unfolding(crate::specs::Texts::head_lines))]
-fn write_head<K: Sink>(out: &mut K, query: &Query, step: &Step, count: u64) -> Result<(), Failed>
-    ensures bytes { AppendsWhole (K.held out.old) (K.held out.new) result (flat_map (λ line. line) (head_texts query.now step.now count)) }
-    ensures cause { HasCause (K.faults out.old) (K.faults out.new) result }
-{
-    let head = [
-        verdict_line(query, &Verdict::Yes(*step)),
-        counted_line("derivation", 1),
-        step_line(query, step),
-        counted_line("end", 1),
-        counted_line("blocks", count),
-    ];
-    write_lines(out, &head)
-}
-
-/// Writes the verdict yes, its derivation, and the blocks.
-#[tactic(auto, using(design_io::proofs::Pieces::composed))]
-pub fn write_design<K: Sink>(
-    out: &mut K,
-    query: &Query,
-    step: &Step,
-    blocks: &Rows,
-) -> Result<(), Failed>
-    requires { All (λ row. length row ≤ POINTS_MAX) blocks.now }
-    ensures bytes { AppendsWhole (K.held out.old) (K.held out.new) result (flat_map (λ line. line) (head_texts query.now step.now (length blocks.now)) ++ flat_map row_text blocks.now) }
-    ensures cause { HasCause (K.faults out.old) (K.faults out.new) result }
-{
-    write_head(out, query, step, blocks.len() as u64)?;
-    write_rows(out, blocks)
 }

@@ -5,10 +5,12 @@ ghost use Rattle.design_cli.specs.Endings.{number_of};
 /// How a run ends.
 #[derive(Clone, Copy, Debug, PartialEq, Eq)]
 pub enum Status {
-    /// The design exists and was built; the blocks are valid.
+    /// The design exists; the blocks are valid.
     Yes,
     /// The design does not exist; the blocks are not valid.
     No,
+    /// The table of rules does not tell.
+    Unknown,
     /// The words are no line that is answered.
     Usage,
     /// The input is not in its grammar, or too long.
@@ -29,6 +31,7 @@ impl Status {
         match self {
             Status::Yes => 0,
             Status::No => 1,
+            Status::Unknown => 2,
             Status::Usage => 64,
             Status::BadInput => 65,
             Status::ReadFault => 66,

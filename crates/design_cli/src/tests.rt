@@ -1,6 +1,12 @@
+ghost use Rattle.std.specs.Prelude.{◌≡◌, ◌<◌};
+
 use crate::run;
 use design_io::{MemorySink, MemorySource};
+use rule_table::Steps;
 use std::alloc::{AllocError, Global};
+use std::marker::Brand;
+use std::process::Abort;
+use std::sync::ledger::{Blank, Ledger};
 use std::test::Fail;
 
 // A line of words, the input, the number of the output's call that fails, and what comes of it.
@@ -22,8 +28,12 @@ fn words_of(alloc: Global, text: &str) -> Result<Vec<String>, AllocError> {
     Ok(words)
 }
 
-// Whether the row comes out so.
-fn holds(alloc: Global, row: &Case) -> Result<bool, AllocError> {
+// Whether the row comes out so, with the steps counted on a ledger.
+fn holds_counted<L: Ledger>(alloc: Global, row: &Case, blank: Blank) -> Result<bool, AllocError>
+    requires name { L.name ≡ blank.name }
+    requires parts { L.parts ≡ blank.parts }
+    requires some { 0 < blank.parts }
+{
     let words = words_of(alloc, row.words)?;
     let text = row.input.as_bytes().to_vec(alloc)?;
     let mut input = MemorySource::new(text, Vec::new(alloc));
@@ -33,12 +43,18 @@ fn holds(alloc: Global, row: &Case) -> Result<bool, AllocError> {
     let Ok(mut err) = MemorySink::new(alloc, 4096, Vec::new(alloc)) else {
         return Err(AllocError);
     };
-    let status = run(alloc, &words, &mut input, &mut out, &mut err);
+    let mut steps = Steps::<L>::new(blank);
+    let status = run(alloc, &words, &mut input, &mut out, &mut err, &mut steps);
     Ok(
         status.number() == row.status
             && out.bytes() == row.output.as_bytes()
             && err.bytes() == row.message.as_bytes(),
     )
+}
+
+// Whether the row comes out so.
+fn holds(alloc: Global, row: &Case) -> Result<bool, AllocError> {
+    holds_counted::<Brand>(alloc, row, Blank::new(1))
 }
 
 const FANO: &str = "0 1 3\n1 2 4\n2 3 5\n3 4 6\n0 4 5\n1 5 6\n0 2 6\n";
@@ -118,7 +134,7 @@ fn words_are_refused(rt: HostRuntime) -> Result<(), Fail> {
         ("ask td 3 4 5", "usage: surplus word at 5\n"),
         ("check mols 4 65534", "usage: out of bounds\n"),
         ("build bibd 7 3 1", "usage: not built\n"),
-        ("check oa 3 2", "usage: not built\n"),
+        ("closure td 5 4", "usage: not built\n"),
     ] {
         let right = holds(rt.alloc(), &told(words, FANO, "", message, 64))?;
         assert!(rt; right, "at {words}");
@@ -205,16 +221,181 @@ fn difference_families_are_checked(rt: HostRuntime) -> Result<(), Fail> {
     Ok(())
 }
 
+const ARRAY_2: &str = "td 3 2 yes cyclic
+derivation 1
+1 td 3 2 cyclic
+end 1
+rows 4
+0 0 0
+0 1 1
+1 0 1
+1 1 0
+";
+
+const SQUARES_3: &str = "td 4 3 yes field
+derivation 1
+1 td 4 3 field
+end 1
+square 1
+0 1 2
+1 2 0
+2 0 1
+square 2
+0 1 2
+2 0 1
+1 2 0
+";
+
+const DERIVATION_18: &str = "td 4 18 yes wilson1 3 5 3
+derivation 1
+1 td 5 5 field
+2 td 4 3 field
+3 td 4 4 field
+4 td 4 3 field
+5 td 4 18 wilson1 3 5 3 from 1 2 3 4
+end 5
+";
+
+const SQUARES_10: &str = "td 4 10 yes parker 3
+derivation 1
+1 td 4 3 field
+2 td 4 10 parker 3 from 1
+end 2
+square 1
+0 6 5 4 9 8 7 1 2 3
+7 1 0 6 5 9 8 2 3 4
+8 7 2 1 0 6 9 3 4 5
+9 8 7 3 2 1 0 4 5 6
+1 9 8 7 4 3 2 5 6 0
+3 2 9 8 7 5 4 6 0 1
+5 4 3 9 8 7 6 0 1 2
+2 3 4 5 6 0 1 7 8 9
+4 5 6 0 1 2 3 8 9 7
+6 0 1 2 3 4 5 9 7 8
+square 2
+0 7 8 9 1 3 5 2 4 6
+6 1 7 8 9 2 4 3 5 0
+5 0 2 7 8 9 3 4 6 1
+4 6 1 3 7 8 9 5 0 2
+9 5 0 2 4 7 8 6 1 3
+8 9 6 1 3 5 7 0 2 4
+7 8 9 0 2 4 6 1 3 5
+1 2 3 4 5 6 0 7 8 9
+2 3 4 5 6 0 1 9 7 8
+3 4 5 6 0 1 2 8 9 7
+";
+
 #[test]
-fn input_that_fails_is_a_read_fault(rt: HostRuntime) -> Result<(), Fail> {
-    let alloc = rt.alloc();
+fn transversal_designs_are_decided(rt: HostRuntime) -> Result<(), Fail> {
+    for (words, output, status) in [
+        ("ask td 6 4", "td 6 4 no groups\n", 1),
+        ("ask td 5 4", "td 5 4 yes field\n", 0),
+        ("ask td 65 64", "td 65 64 yes field\n", 0),
+        ("ask td 66 64", "td 66 64 no groups\n", 1),
+        ("ask td 4 6", "td 4 6 unknown\n", 2),
+        ("ask mols 14 2", "td 4 14 unknown\n", 2),
+        ("explain td 6 4", "td 6 4 no groups\nbecause 6 5\n", 1),
+        ("explain oa 4 6", "td 4 6 unknown\n", 2),
+        ("explain td 4 18", DERIVATION_18, 0),
+        ("build td 6 4", "td 6 4 no groups\n", 1),
+        ("build td 4 6", "td 4 6 unknown\n", 2),
+        ("build oa 3 2", ARRAY_2, 0),
+        ("build mols 3 2", SQUARES_3, 0),
+        ("build mols 10 2", SQUARES_10, 0),
+    ] {
+        let right = holds(rt.alloc(), &told(words, "", output, "", status))?;
+        assert!(rt; right, "at {words}");
+    }
+    Ok(())
+}
+
+#[test]
+fn arrays_and_squares_are_checked(rt: HostRuntime) -> Result<(), Fail> {
+    for (words, input, output, status) in [
+        ("check mols 2 1", "0 1\n1 0\n", "td 3 2 valid\n", 0),
+        ("check mols 2 1", "0 1\n1\n", "td 3 2 invalid block 2\n", 1),
+        (
+            "check mols 2 1",
+            "0 1\n1 0\n0 1\n",
+            "td 3 2 invalid block 3\n",
+            1,
+        ),
+        ("check mols 1 2", "0\n0\n", "td 4 1 valid\n", 0),
+        (
+            "check oa 3 2",
+            "0 0 0\n0 1 1\n1 0 1\n1 1 0\n",
+            "td 3 2 valid\n",
+            0,
+        ),
+        (
+            "check oa 3 2",
+            "0 0 0\n0 1 1\n1 0 1\n1 1 1\n",
+            "td 3 2 invalid pair 1 4 covered 0\n",
+            1,
+        ),
+        (
+            "check oa 3 2",
+            "1 1 0\n0 2 0\n",
+            "td 3 2 invalid block 2\n",
+            1,
+        ),
+    ] {
+        let right = holds(rt.alloc(), &told(words, input, output, "", status))?;
+        assert!(rt; right, "at {words}, {input}");
+    }
+    Ok(())
+}
+
+#[test]
+fn lines_behind_a_short_block_are_read(rt: HostRuntime) -> Result<(), Fail> {
+    for (words, input, output, message, status) in [
+        (
+            "check bibd 7 3 1",
+            "0 1 3\n5\n1 2 4\n2 x 5\n",
+            "",
+            "bad input at line 4\n",
+            65,
+        ),
+        (
+            "check bibd 7 3 1",
+            "0 1 3\n5\n9\n",
+            "bibd 7 3 1 invalid block 2\n",
+            "",
+            1,
+        ),
+        (
+            "check oa 3 2",
+            "1 1 0\n7\n0 x\n",
+            "",
+            "bad input at line 3\n",
+            65,
+        ),
+    ] {
+        let right = holds(rt.alloc(), &told(words, input, output, message, status))?;
+        assert!(rt; right, "at {words}, {input}");
+    }
+    Ok(())
+}
+
+// An input whose first read fails.
+fn assert_read_fault<L: Ledger>(rt: &impl Abort, alloc: Global, blank: Blank) -> Result<(), Fail>
+    requires name { L.name ≡ blank.name }
+    requires parts { L.parts ≡ blank.parts }
+    requires some { 0 < blank.parts }
+{
     let words = words_of(alloc, "check bibd 7 3 1")?;
     let mut input = MemorySource::new(Vec::new(alloc), vec![in alloc; 1u32]?);
     let mut out = MemorySink::new(alloc, 100, Vec::new(alloc))?;
     let mut err = MemorySink::new(alloc, 100, Vec::new(alloc))?;
-    let status = run(alloc, &words, &mut input, &mut out, &mut err);
+    let mut steps = Steps::<L>::new(blank);
+    let status = run(alloc, &words, &mut input, &mut out, &mut err, &mut steps);
     assert_eq!(rt; status.number(), 66);
     assert!(rt; out.bytes().is_empty());
     assert_eq!(rt; err.bytes(), b"read fault\n".as_slice());
     Ok(())
+}
+
+#[test]
+fn input_that_fails_is_a_read_fault(rt: HostRuntime) -> Result<(), Fail> {
+    assert_read_fault::<Brand>(&rt, rt.alloc(), Blank::new(1))
 }

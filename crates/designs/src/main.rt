@@ -1,10 +1,15 @@
 // The program: an oracle and builder for combinatorial designs.
 #![tactic(auto)]
 
-use design_cli::run;
+ghost use Rattle.std.specs.Prelude.{◌≡◌, ◌<◌};
+
+use design_cli::{Status, run};
 use design_io::{StdSink, StdSource};
+use rule_table::Steps;
+use std::marker::Brand;
 use std::process::ExitCode;
 use std::rt::Env;
+use std::sync::ledger::{Blank, Ledger};
 use std::{env, io};
 
 // Why the words of the command line are not at hand.
@@ -39,6 +44,26 @@ fn words_of<R: Env + AllocGlobal>(rt: &R) -> Result<Vec<String>, StartEnd> {
     Ok(words)
 }
 
+// Answers the words on the standard streams, and counts on a ledger of its own.
+fn answer<L: Ledger>(rt: &HostRuntime, words: &[String], blank: Blank) -> Status
+    requires name { L.name ≡ blank.name }
+    requires parts { L.parts ≡ blank.parts }
+    requires some { 0 < blank.parts }
+{
+    let mut input = StdSource::new(rt.stdin());
+    let mut out = StdSink::new(rt.stdout());
+    let mut err = StdSink::new(rt.stderr());
+    let mut steps = Steps::<L>::new(blank);
+    run(
+        rt.alloc(),
+        words,
+        &mut input,
+        &mut out,
+        &mut err,
+        &mut steps,
+    )
+}
+
 fn main(rt: HostRuntime) -> ExitCode {
     let words = match words_of(&rt) {
         Ok(words) => words,
@@ -48,9 +73,5 @@ fn main(rt: HostRuntime) -> ExitCode {
             return ExitCode::from(status);
         }
     };
-    let mut input = StdSource::new(rt.stdin());
-    let mut out = StdSink::new(rt.stdout());
-    let mut err = StdSink::new(rt.stderr());
-    let status = run(rt.alloc(), &words, &mut input, &mut out, &mut err);
-    ExitCode::from(status.number())
+    ExitCode::from(answer::<Brand>(&rt, &words, Blank::new(1)).number())
 }

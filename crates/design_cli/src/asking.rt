@@ -1,0 +1,205 @@
+//! The answers to `ask` and `explain`: the verdict, and why it is so.
+ghost use Rattle.std.specs.Prelude.{◌≡◌, ◌≢◌, ◌↔◌, [], ◌++◌, Some, true};
+ghost use Rattle.std.specs.List.{flat_map};
+ghost use Rattle.criteria.specs.Criteria.{criterion_of, numbers_of};
+ghost use Rattle.design_base.specs.Limits.{in_bounds};
+ghost use Rattle.derivation_text.specs.Text.{derivation_lines};
+ghost use Rattle.design_io.specs.Faults.{HasCause};
+ghost use Rattle.design_io.specs.Pieces.{AppendsWhole};
+ghost use Rattle.design_cli.specs.Chosen.{decided, derivation_of};
+ghost use Rattle.design_cli.specs.Designs.{HasSpellable};
+ghost use Rattle.design_cli.specs.Endings.{status_of};
+ghost use Rattle.design_cli.specs.Report.{ask_report, ending_with, explain_report, verdict_report};
+ghost use Rattle.design_cli.specs.Runs.{EndsWith, HasFault, IsAnswer, IsSilent};
+ghost use Rattle.design_cli.specs.Texts.{because_lines, verdict_line as verdict_text};
+
+use crate::designs::table_derivation;
+use crate::ending::Ending;
+use crate::lines::{write_because, write_verdict};
+use crate::status::Status;
+use criteria::numbers;
+use derivation_text::print_v1;
+use derivations::Derivation;
+use design_base::{Criterion, Query, Step, Verdict};
+use design_io::{Failed, Sink};
+use rule_table::{Steps, Tools, evaluate};
+use std::alloc::Global;
+use std::sync::ledger::Ledger;
+
+// How an answer ends that says the verdict.
+fn ending_of(verdict: &Verdict) -> Ending
+    ensures { result ≡ ending_with verdict.now }
+{
+    match verdict {
+        Verdict::Yes(_) => Ending::Yes,
+        Verdict::No(_) => Ending::No,
+        Verdict::Unknown => Ending::Unknown,
+    }
+}
+
+/// Answers with the verdict alone.
+pub fn answer_verdict<K: Sink>(query: &Query, verdict: &Verdict, out: &mut K) -> Ending
+    ensures ends { EndsWith (verdict_report query.now verdict.now []) result (K.held out.old) (K.held out.new) }
+    ensures cause { HasFault result (K.faults out.old) (K.faults out.new) }
+    ensures answered { IsAnswer result }
+    ensures no_read { result ≢ Ending.ReadFault }
+    ensures memory { result ≢ Ending.NoMemory }
+{
+    match write_verdict(out, query, verdict) {
+        Ok(()) => ending_of(verdict),
+        Err(Failed) => Ending::WriteFault,
+    }
+}
+
+// Says the verdict on a transversal design.
+fn ask_td<K: Sink, L: Ledger>(
+    alloc: Global,
+    k: u16,
+    n: u16,
+    steps: &mut Steps<L>,
+    out: &mut K,
+) -> Ending
+    requires { in_bounds (Query.Td k n) ≡ true }
+    ensures ends { EndsWith (ask_report (Query.Td k n) (decided (Query.Td k n))) result (K.held out.old) (K.held out.new) }
+    ensures cause { HasFault result (K.faults out.old) (K.faults out.new) }
+    ensures answered { IsAnswer result }
+    ensures no_read { result ≢ Ending.ReadFault }
+{
+    let Ok(tools) = Tools::open(alloc) else {
+        return Ending::NoMemory;
+    };
+    let query = Query::Td { k, n };
+    let verdict = evaluate(&query, &tools, steps);
+    answer_verdict(&query, &verdict, out)
+}
+
+/// Answers `ask`: the verdict by the table of rules.
+pub fn answer_ask<K: Sink, L: Ledger>(
+    alloc: Global,
+    query: &Query,
+    steps: &mut Steps<L>,
+    out: &mut K,
+) -> Ending
+    requires { in_bounds query.now ≡ true }
+    ensures ends { EndsWith (ask_report query.now (decided query.now)) result (K.held out.old) (K.held out.new) }
+    ensures cause { HasFault result (K.faults out.old) (K.faults out.new) }
+    ensures no_read { result ≢ Ending.ReadFault }
+    ensures silent { IsSilent result (K.held out.old) (K.held out.new) }
+    ensures usage { (status_of result ≡ Status.Usage) ↔ (status_of (ask_report query.now (decided query.now)).ending ≡ Status.Usage) }
+{
+    match *query {
+        Query::Td { k, n } => ask_td(alloc, k, n, steps, out),
+        _ => Ending::NotBuilt,
+    }
+}
+
+// Writes the verdict yes and its derivation.
+#[tactic(auto, using(design_io::proofs::Pieces::composed))]
+fn write_derivation<K: Sink>(
+    out: &mut K,
+    query: &Query,
+    step: &Step,
+    derivation: &Derivation,
+) -> Result<(), Failed>
+    requires { HasSpellable derivation.now }
+    ensures bytes { AppendsWhole (K.held out.old) (K.held out.new) result (verdict_text query.now (Verdict.Yes step.now) ++ flat_map (λ line. line) (derivation_lines derivation.now)) }
+    ensures cause { HasCause (K.faults out.old) (K.faults out.new) result }
+{
+    write_verdict(out, query, &Verdict::Yes(*step))?;
+    print_v1(derivation, out)
+}
+
+// Explains a question that the table of rules answers by yes, by its derivation.
+fn explain_yes<K: Sink>(query: &Query, step: &Step, derivation: &Derivation, out: &mut K) -> Ending
+    requires derivation { derivation.now ≡ derivation_of query.now step.now }
+    requires few { HasSpellable derivation.now }
+    ensures ends { EndsWith (explain_report query.now (Some (Verdict.Yes step.now))) result (K.held out.old) (K.held out.new) }
+    ensures cause { HasFault result (K.faults out.old) (K.faults out.new) }
+    ensures answered { IsAnswer result }
+    ensures no_read { result ≢ Ending.ReadFault }
+{
+    match write_derivation(out, query, step, derivation) {
+        Ok(()) => Ending::Yes,
+        Err(Failed) => Ending::WriteFault,
+    }
+}
+
+// Writes the verdict no, and the two numbers that the criterion compares.
+#[tactic(auto, using(design_io::proofs::Pieces::composed))]
+fn write_reason<K: Sink>(out: &mut K, query: &Query, criterion: Criterion) -> Result<(), Failed>
+    requires bounds { in_bounds query.now ≡ true }
+    requires criterion { criterion_of query.now ≡ Some criterion }
+    ensures bytes { AppendsWhole (K.held out.old) (K.held out.new) result (verdict_text query.now (Verdict.No criterion) ++ flat_map (λ line. line) (because_lines (numbers_of query.now))) }
+    ensures cause { HasCause (K.faults out.old) (K.faults out.new) result }
+{
+    write_verdict(out, query, &Verdict::No(criterion))?;
+    let (first, second) = numbers(query, &criterion);
+    write_because(out, first, second)
+}
+
+// Explains a question that the table of rules answers by no.
+fn explain_no<K: Sink>(query: &Query, criterion: Criterion, out: &mut K) -> Ending
+    requires bounds { in_bounds query.now ≡ true }
+    requires criterion { criterion_of query.now ≡ Some criterion }
+    ensures ends { EndsWith (explain_report query.now (Some (Verdict.No criterion))) result (K.held out.old) (K.held out.new) }
+    ensures cause { HasFault result (K.faults out.old) (K.faults out.new) }
+    ensures answered { IsAnswer result }
+    ensures no_read { result ≢ Ending.ReadFault }
+{
+    match write_reason(out, query, criterion) {
+        Ok(()) => Ending::No,
+        Err(Failed) => Ending::WriteFault,
+    }
+}
+
+// Says the verdict on a transversal design, and why it is so.
+#[tactic(auto, using(crate::proofs::Reasons::criterion_of_no))]
+fn explain_td<K: Sink, L: Ledger>(
+    alloc: Global,
+    k: u16,
+    n: u16,
+    steps: &mut Steps<L>,
+    out: &mut K,
+) -> Ending
+    requires { in_bounds (Query.Td k n) ≡ true }
+    ensures ends { EndsWith (explain_report (Query.Td k n) (decided (Query.Td k n))) result (K.held out.old) (K.held out.new) }
+    ensures cause { HasFault result (K.faults out.old) (K.faults out.new) }
+    ensures answered { IsAnswer result }
+    ensures no_read { result ≢ Ending.ReadFault }
+{
+    let Ok(tools) = Tools::open(alloc) else {
+        return Ending::NoMemory;
+    };
+    let query = Query::Td { k, n };
+    let verdict = evaluate(&query, &tools, steps);
+    match verdict {
+        Verdict::Yes(step) => {
+            let Ok(derivation) = table_derivation(alloc, &query, &step, &tools, steps) else {
+                return Ending::NoMemory;
+            };
+            explain_yes(&query, &step, &derivation, out)
+        }
+        Verdict::No(criterion) => explain_no(&query, criterion, out),
+        Verdict::Unknown => answer_verdict(&query, &verdict, out),
+    }
+}
+
+/// Answers `explain`: the verdict by the table of rules, and its derivation or the two numbers of its criterion.
+pub fn answer_explain<K: Sink, L: Ledger>(
+    alloc: Global,
+    query: &Query,
+    steps: &mut Steps<L>,
+    out: &mut K,
+) -> Ending
+    requires { in_bounds query.now ≡ true }
+    ensures ends { EndsWith (explain_report query.now (decided query.now)) result (K.held out.old) (K.held out.new) }
+    ensures cause { HasFault result (K.faults out.old) (K.faults out.new) }
+    ensures no_read { result ≢ Ending.ReadFault }
+    ensures silent { IsSilent result (K.held out.old) (K.held out.new) }
+    ensures usage { (status_of result ≡ Status.Usage) ↔ (status_of (explain_report query.now (decided query.now)).ending ≡ Status.Usage) }
+{
+    match *query {
+        Query::Td { k, n } => explain_td(alloc, k, n, steps, out),
+        _ => Ending::NotBuilt,
+    }
+}
