@@ -52,8 +52,8 @@ pub six_lines_mols : IsMols ((0 ∷ 1 ∷ 2 ∷ []) ∷ (1 ∷ 2 ∷ 0 ∷ []) �
 unfolding sum_below one
 six_lines_mols = record {
   count = refl;
-  lines = All-from_recursion (IsRow 3 3) six_lines (three 3 0 1 2 (lit< tt) (lit< tt) (lit< tt), (three 3 1 2 0 (lit< tt) (lit< tt) (lit< tt), (three 3 2 0 1 (lit< tt) (lit< tt) (lit< tt), (three 3 0 1 2 (lit< tt) (lit< tt) (lit< tt), (three 3 2 0 1 (lit< tt) (lit< tt) (lit< tt), (three 3 1 2 0 (lit< tt) (lit< tt) (lit< tt), tt))))));
-  in_lines = λ s x a l m h. eqb-true _ 1 (at 3 (in_line s x) a (at 3 (λ x. all_below 3 (in_line s x)) x (at 2 (λ s. all_below 3 (λ x. all_below 3 (in_line s x))) s refl l) m) h);
+  rows = All-from_recursion (IsRow 3 3) six_lines (three 3 0 1 2 (lit< tt) (lit< tt) (lit< tt), (three 3 1 2 0 (lit< tt) (lit< tt) (lit< tt), (three 3 2 0 1 (lit< tt) (lit< tt) (lit< tt), (three 3 0 1 2 (lit< tt) (lit< tt) (lit< tt), (three 3 2 0 1 (lit< tt) (lit< tt) (lit< tt), (three 3 1 2 0 (lit< tt) (lit< tt) (lit< tt), tt))))));
+  in_rows = λ s x a l m h. eqb-true _ 1 (at 3 (in_line s x) a (at 3 (λ x. all_below 3 (in_line s x)) x (at 2 (λ s. all_below 3 (λ x. all_below 3 (in_line s x))) s refl l) m) h);
   in_columns = λ s y a l m h. eqb-true _ 1 (at 3 (in_column s y) a (at 3 (λ y. all_below 3 (in_column s y)) y (at 2 (λ s. all_below 3 (λ y. all_below 3 (in_column s y))) s refl l) m) h);
   orthogonal = λ s t a b l m h g. eqb-true _ 1 (at 3 (at_cell s t a) b (at 3 (λ a. all_below 3 (at_cell s t a)) a (at t (λ s. all_below 3 (λ a. all_below 3 (at_cell s t a))) s (at 2 (λ t. all_below t (λ s. all_below 3 (λ a. all_below 3 (at_cell s t a)))) t refl m) l) h) g);
 }

@@ -86,7 +86,7 @@ module _ (m n : ℕ) (L : List (List ℕ)) (count : length L ≡ m * n) (lines :
     where
       on_grid : (i j a b : ℕ) → i < j → j < m + 2 → a < n → b < n → grid L n i j a b ≡ 1
       on_grid zero (suc zero) a b l h la lb = grid-cell n L a b la lb
-      on_grid zero (suc (suc s)) a b l h la lb = grid-line n L s a b la ∙ mols.in_lines s a b (omega arith) la lb
+      on_grid zero (suc (suc s)) a b l h la lb = grid-line n L s a b la ∙ mols.in_rows s a b (omega arith) la lb
       on_grid (suc zero) (suc (suc s)) a b l h la lb = grid-column n L s a b la ∙ mols.in_columns s a b (omega arith) la lb
       on_grid (suc (suc s)) (suc (suc t)) a b l h la lb = grid-squares n L s t a b ∙ mols.orthogonal s t a b (omega arith) (omega arith) la lb
       on_grid (suc i) (suc zero) a b l h la lb = absurd (omega arith)
@@ -95,8 +95,8 @@ module _ (m n : ℕ) (L : List (List ℕ)) (count : length L ≡ m * n) (lines :
   mols_from_oa : IsOa (rows_of_squares m n L) (m + 2) n → IsMols L n m
   mols_from_oa oa = record {
     count = count;
-    lines = lines;
-    in_lines = λ s x a l lx la. sym (grid-line n L s x a lx) ∙ on_grid 0 (suc (suc s)) x a (omega arith) (omega arith) lx la;
+    rows = lines;
+    in_rows = λ s x a l lx la. sym (grid-line n L s x a lx) ∙ on_grid 0 (suc (suc s)) x a (omega arith) (omega arith) lx la;
     in_columns = λ s y a l ly la. sym (grid-column n L s y a ly) ∙ on_grid 1 (suc (suc s)) y a (omega arith) (omega arith) ly la;
     orthogonal = λ s t a b l h la lb. sym (grid-squares n L s t a b) ∙ on_grid (suc (suc s)) (suc (suc t)) a b (omega arith) (omega arith) la lb;
   }

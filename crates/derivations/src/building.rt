@@ -1,14 +1,19 @@
 // The design of a step, made of designs that meet its premises.
-ghost use Rattle.std.specs.Prelude.{◌≡◌, true, map, IfOk};
+ghost use Rattle.std.specs.Prelude.{◌≡◌, ◌+◌, ◌≤◌, true, map, IfOk};
+ghost use Rattle.design_base.specs.Canonical.{canonical};
+ghost use Rattle.design_base.specs.Fields.{has_field};
 ghost use Rattle.design_base.specs.Limits.{in_bounds};
 ghost use Rattle.design_base.specs.Meets.{Meets};
+ghost use Rattle.design_base.specs.declared.limits.TheConstants.{TD_K_MAX, TD_N_MAX};
 ghost use Rattle.design_base.specs.declared.query.Query.TheVariants.{Td};
 ghost use Rattle.design_base.specs.declared.rule.Rule.TheVariants.{Wilson1, Wilson2};
 ghost use Rattle.rule_table.specs.Candidates.{is_candidate, premises};
+ghost use Rattle.transversal.specs.Constructions.{field_blocks};
 ghost use Rattle.derivations.specs.AllMeet.{AllMeet};
 ghost use Rattle.derivations.specs.Blocks.{blocks as blocks_of};
 
-use design_base::{Memory, Query, Rule, Step};
+use design_base::{Memory, Query, Rule, Step, TD_K_MAX, TD_N_MAX};
+use field_tables::open_field;
 use incidence::Rows;
 use rule_table::Tools;
 use std::alloc::Global;
@@ -72,6 +77,21 @@ fn truncated_twice(
     )
 }
 
+// The transversal design of the lines over the field of n elements.
+fn field_list(alloc: Global, k: u16, n: u16) -> Result<Rows, Memory>
+    requires listed { has_field n ≡ true }
+    requires two_groups { 2 ≤ k }
+    requires groups { k ≤ TD_K_MAX }
+    requires columns { k ≤ n + 1 }
+    requires points { n ≤ TD_N_MAX }
+    ensures { IfOk result (λ rows. rows ≡ canonical (field_blocks k n)) }
+{
+    match open_field(alloc, n)? {
+        Some(field) => field_td(alloc, &field, k),
+        None => unreachable!(),
+    }
+}
+
 // The transversal design of a candidate.
 fn build_td(
     alloc: Global,
@@ -89,10 +109,7 @@ fn build_td(
     match step.rule {
         Rule::TdOne => one(alloc, k),
         Rule::Cyclic => cyclic(alloc, k, n),
-        Rule::Field => match tools.fields().field(n) {
-            Some(field) => field_td(alloc, field, k),
-            None => unreachable!(),
-        },
+        Rule::Field => field_list(alloc, k, n),
         Rule::Product => product(alloc, k, step.a, ingredients[0], step.b, ingredients[1]),
         Rule::Parker => parker(alloc, step.a, ingredients[0]),
         Rule::Wilson1 => truncated_once(alloc, k, n, step, ingredients),

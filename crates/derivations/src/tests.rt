@@ -128,7 +128,7 @@ fn assert_derivations<L: Ledger>(
 
 #[test]
 fn derivations(rt: HostRuntime) -> Result<(), Fail> {
-    let tools = Tools::open(rt.alloc())?;
+    let tools = Tools::new(rt.alloc());
     assert_derivations::<Brand>(&rt, rt.alloc(), &tools, Blank::new(1))?;
     Ok(())
 }
@@ -136,7 +136,7 @@ fn derivations(rt: HostRuntime) -> Result<(), Fail> {
 // The verdict itself would truncate to other groups.
 #[test]
 fn lines_by_hand(rt: HostRuntime) -> Result<(), Fail> {
-    let tools = Tools::open(rt.alloc())?;
+    let tools = Tools::new(rt.alloc());
     let lines = derivation_of(
         rt.alloc(),
         &[
@@ -190,7 +190,7 @@ fn product<'a>(n: u16, numbers: &'a [u64]) -> Row<'a> {
 #[test]
 fn faults_of_a_line(rt: HostRuntime) -> Result<(), Fail> {
     let alloc = rt.alloc();
-    let tools = Tools::open(alloc)?;
+    let tools = Tools::new(alloc);
     assert_fault(
         &rt,
         alloc,
@@ -253,7 +253,7 @@ fn faults_of_a_line(rt: HostRuntime) -> Result<(), Fail> {
 #[test]
 fn faults_of_several_lines(rt: HostRuntime) -> Result<(), Fail> {
     let alloc = rt.alloc();
-    let tools = Tools::open(alloc)?;
+    let tools = Tools::new(alloc);
     let nine = Step::new(Rule::Product, 3, 3, 0, 0);
     assert_fault(
         &rt,

@@ -7,4 +7,5 @@ pub mod Rows
 pub mod Groups
 pub mod Solutions
 pub mod Orders
+pub mod RuleOrder
 pub mod Samples

@@ -3,7 +3,7 @@ use Rattle.std.proofs.Common.{◌≡◌, ℕ, ◌+◌, List, [], ◌∷◌, true
 use Rattle.counting.specs.Sorting.{insert_by, sort_by}
 use Rattle.counting.specs.Search.{first_in, each_passes, is_among}
 use Rattle.counting.specs.Sums.{join_below}
-use Rattle.design_base.specs.Blocks.{holds, cover, degree, across, differences}
+use Rattle.design_base.specs.Blocks.{holds, cover, replication, across, differences}
 use Rattle.design_base.specs.Canonical.{lex_le, canonical}
 use Rattle.design_base.specs.Arrays.{place, row_block, blocks_of_rows, rows_of_blocks, agree}
 use Rattle.design_base.specs.Squares.{cell}
@@ -30,9 +30,9 @@ cover_six : cover ((0 ∷ 2 ∷ 6 ∷ []) ∷ six_blocks) 0 6 ≡ 1
 unfolding cover holds
 cover_six = refl
 
-degree_of_zero : degree ((0 ∷ 2 ∷ 6 ∷ []) ∷ six_blocks) 0 ≡ 3
-unfolding degree holds
-degree_of_zero = refl
+replication_of_zero : replication ((0 ∷ 2 ∷ 6 ∷ []) ∷ six_blocks) 0 ≡ 3
+unfolding replication holds
+replication_of_zero = refl
 
 -- repeats are kept, and the shorter of two blocks that begin alike comes first
 canonical_form : canonical ((3 ∷ 1 ∷ 0 ∷ []) ∷ (2 ∷ 1 ∷ []) ∷ (1 ∷ 0 ∷ []) ∷ (2 ∷ 1 ∷ []) ∷ []) ≡ (0 ∷ 1 ∷ []) ∷ (0 ∷ 1 ∷ 3 ∷ []) ∷ (1 ∷ 2 ∷ []) ∷ (1 ∷ 2 ∷ []) ∷ []

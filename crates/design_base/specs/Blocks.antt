@@ -14,8 +14,8 @@ unfoldable pub cover : List (List ℕ) → ℕ → ℕ → ℕ
 cover blocks x y = count_by (λ block. holds x block && holds y block) blocks
 
 -- the replication of x: how many blocks hold it
-unfoldable pub degree : List (List ℕ) → ℕ → ℕ
-degree blocks x = count_by (λ block. holds x block) blocks
+unfoldable pub replication : List (List ℕ) → ℕ → ℕ
+replication blocks x = count_by (λ block. holds x block) blocks
 
 -- points below v in increasing order, and so many of them as `Size` allows
 pub record IsBlock (v : ℕ) (Size : ℕ → Type 0) (block : List ℕ) : Type 0 where

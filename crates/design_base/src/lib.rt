@@ -9,12 +9,12 @@ mod step;
 mod verdict;
 
 pub use limits::{
-    COVER_MAX, DERIVATION_MAX, DIGITS_MAX, GDD_K_MAX, INPUT_MAX, LINE_MAX, PACKED_MAX,
-    PARAMETER_MAX, PBD_S_MAX, POINTS_MAX, PREMISES_MAX, TD_K_MAX, TD_N_MAX, WORKERS_MAX,
-    WORKLOAD_MAX,
+    BLOCK_DIGITS_MAX, COVER_MAX, DERIVATION_MAX, DIGITS_MAX, GDD_K_MAX, INPUT_MAX, LINE_MAX,
+    PACKED_MAX, PARAMETER_MAX, PBD_S_MAX, POINTS_MAX, PREMISES_MAX, TD_K_MAX, TD_N_MAX,
+    WORKERS_MAX, WORKLOAD_MAX,
 };
 pub use query::{FIELD_ORDERS, Group, Query, TableAsk, in_bounds, is_field_order};
 pub use refusal::Memory;
-pub use rule::Rule;
+pub use rule::{Kind, RULES, Rule, RuleTitle, rule_at, rule_named};
 pub use step::Step;
 pub use verdict::{Criterion, Verdict};

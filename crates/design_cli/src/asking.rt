@@ -65,9 +65,7 @@ fn ask_td<K: Sink, L: Ledger>(
     ensures answered { IsAnswer result }
     ensures no_read { result ≢ Ending.ReadFault }
 {
-    let Ok(tools) = Tools::open(alloc) else {
-        return Ending::NoMemory;
-    };
+    let tools = Tools::new(alloc);
     let query = Query::Td { k, n };
     let verdict = evaluate(&query, &tools, steps);
     answer_verdict(&query, &verdict, out)
@@ -167,9 +165,7 @@ fn explain_td<K: Sink, L: Ledger>(
     ensures answered { IsAnswer result }
     ensures no_read { result ≢ Ending.ReadFault }
 {
-    let Ok(tools) = Tools::open(alloc) else {
-        return Ending::NoMemory;
-    };
+    let tools = Tools::new(alloc);
     let query = Query::Td { k, n };
     let verdict = evaluate(&query, &tools, steps);
     match verdict {

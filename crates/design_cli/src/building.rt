@@ -92,9 +92,7 @@ fn build_td<K: Sink, L: Ledger>(
     ensures answered { IsAnswer result }
     ensures no_read { result ≢ Ending.ReadFault }
 {
-    let Ok(tools) = Tools::open(alloc) else {
-        return Ending::NoMemory;
-    };
+    let tools = Tools::new(alloc);
     let query = Query::Td { k, n };
     let verdict = evaluate(&query, &tools, steps);
     let Verdict::Yes(step) = verdict else {

@@ -15,7 +15,9 @@ use crate::ending::Ending;
 use crate::lines::write_finding;
 use arrays::{ArrayEnd, td_of_rows, td_of_squares};
 use design_base::{INPUT_MAX, Memory, Query};
-use design_checks::{Finding, Scratch, check};
+use design_checks::{
+    Finding, Scratch, check_bibd, check_df, check_gdd, check_pbd, check_td,
+};
 use design_io::{Failed, ReadEnd, Sink, Source, read_all};
 use design_lines::Shape;
 use field_tables::Fields;
@@ -24,23 +26,6 @@ use std::alloc::Global;
 
 /// A block has at least so many points in any design that is asked for.
 const SHORTEST_BLOCK: usize = 2;
-
-// What a check needs: the fields, and room for its counts.
-#[derive(Drop)]
-struct Tools {
-    fields: Fields,
-    scratch: Scratch,
-}
-
-impl Tools {
-    // Takes the memory for them.
-    fn open(alloc: Global) -> Result<Tools, Memory> {
-        Ok(Tools {
-            fields: Fields::open(alloc)?,
-            scratch: Scratch::new(alloc)?,
-        })
-    }
-}
 
 // Writes what was found.
 fn answer_finding<K: Sink>(query: &Query, finding: Finding, out: &mut K) -> Ending
@@ -63,8 +48,18 @@ fn found_in_blocks(alloc: Global, query: &Query, blocks: &Rows) -> Result<Findin
     requires { in_bounds query.now ≡ true }
     ensures { IfOk result (λ found. found ≡ finding_of query.now blocks.now) }
 {
-    let mut tools = Tools::open(alloc)?;
-    Ok(check(query, blocks, &tools.fields, &mut tools.scratch))
+    let mut scratch = Scratch::new(alloc)?;
+    let finding = match *query {
+        Query::Td { k, n } => check_td(blocks, k, n, &mut scratch),
+        Query::Bibd { v, k, l } => check_bibd(blocks, v, k, l, &mut scratch),
+        Query::Gdd { k, g, u } => check_gdd(blocks, k, g, u, &mut scratch),
+        Query::Pbd { v, s } => check_pbd(blocks, v, s, &mut scratch),
+        Query::Df { group, v, k, l } => {
+            let fields = Fields::open(alloc)?;
+            check_df(blocks, &fields, group, v, k, l, &mut scratch)
+        }
+    };
+    Ok(finding)
 }
 
 // What the check of the blocks that lines stand for finds, or that a line is bad.

@@ -7,7 +7,7 @@ ghost use Rattle.spaces.specs.Points.{point_count};
 ghost use Rattle.design_cli.specs.Chosen.{affine_verdict as verdict_of_affine, dimension_among, dimension_of, geometry_verdict as verdict_of_geometry, projective_verdict as verdict_of_projective};
 
 use design_base::{Memory, Rule, Step, Verdict, is_field_order};
-use field_tables::Fields;
+use field_tables::open_field;
 use incidence::Rows;
 use spaces::{affine_lines, projective_lines};
 use std::alloc::Global;
@@ -102,9 +102,8 @@ pub fn affine_blocks(alloc: Global, q: u16, d: u16) -> Result<Rows, Memory>
     requires in_bounds { q ^ d ≤ POINTS_MAX }
     ensures { IfOk result (λ rows. rows ≡ affine_lines_of q d) }
 {
-    let fields = Fields::open(alloc)?;
-    match fields.field(q) {
-        Some(field) => affine_lines(alloc, field, d),
+    match open_field(alloc, q)? {
+        Some(field) => affine_lines(alloc, &field, d),
         None => unreachable!(),
     }
 }
@@ -116,9 +115,8 @@ pub fn projective_blocks(alloc: Global, q: u16, d: u16) -> Result<Rows, Memory>
     requires in_bounds { point_count q d ≤ POINTS_MAX }
     ensures { IfOk result (λ rows. rows ≡ projective_lines_of q d) }
 {
-    let fields = Fields::open(alloc)?;
-    match fields.field(q) {
-        Some(field) => projective_lines(alloc, field, d),
+    match open_field(alloc, q)? {
+        Some(field) => projective_lines(alloc, &field, d),
         None => unreachable!(),
     }
 }

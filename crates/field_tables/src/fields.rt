@@ -62,9 +62,11 @@ impl Fields {
     }
 }
 
-// The field of q elements, if there is one.
-fn open_field(alloc: Global, q: u16) -> Result<Option<Field>, Memory>
-    ensures { IfOk result (λ f. f ≡ field_order q) }
+/// The field of q elements alone. None exactly where there is none, which is where q is not listed; `Memory` comes only for want of memory.
+pub fn open_field(alloc: Global, q: u16) -> Result<Option<Field>, Memory>
+    ensures field { IfOk result (λ f. f ≡ field_order q) }
+    ensures listed { IfOk result (λ f. is_some f ≡ has_field q) }
+    ensures order { IfOk result (λ f. IfSome f (λ f. f ≡ q)) }
 {
     match listed(q) {
         Some(polynomial) => Ok(Some(Field::new(alloc, polynomial)?)),

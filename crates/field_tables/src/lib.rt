@@ -8,7 +8,7 @@ mod polynomial;
 mod ring;
 
 pub use field::Field;
-pub use fields::Fields;
+pub use fields::{Fields, open_field};
 pub use laws::field_laws;
 
 #[cfg(test)]

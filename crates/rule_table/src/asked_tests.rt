@@ -57,7 +57,7 @@ fn assert_verdicts<L: Ledger>(rt: &impl Abort, tools: &Tools, blank: Blank)
 
 #[test]
 fn verdicts(rt: HostRuntime) -> Result<(), Fail> {
-    let tools = Tools::open(rt.alloc())?;
+    let tools = Tools::new(rt.alloc());
     assert_verdicts::<Brand>(&rt, &tools, Blank::new(1));
     Ok(())
 }
@@ -97,7 +97,7 @@ fn assert_asks_twelve<L: Ledger>(rt: &impl Abort, tools: &Tools, blank: Blank)
 
 #[test]
 fn asks_up_to_the_first_that_is_not_yes(rt: HostRuntime) -> Result<(), Fail> {
-    let tools = Tools::open(rt.alloc())?;
+    let tools = Tools::new(rt.alloc());
     assert_asks_twelve::<Brand>(&rt, &tools, Blank::new(1));
     Ok(())
 }

@@ -36,7 +36,7 @@ fn assert_none(rt: &impl Abort, tools: &Tools, q: &Query, step: &Step) {
 
 #[test]
 fn small_orders(rt: HostRuntime) -> Result<(), Fail> {
-    let tools = Tools::open(rt.alloc())?;
+    let tools = Tools::new(rt.alloc());
     assert_candidates(
         &rt,
         &tools,
@@ -73,7 +73,7 @@ fn small_orders(rt: HostRuntime) -> Result<(), Fail> {
 
 #[test]
 fn order_twelve(rt: HostRuntime) -> Result<(), Fail> {
-    let tools = Tools::open(rt.alloc())?;
+    let tools = Tools::new(rt.alloc());
     assert_candidates(
         &rt,
         &tools,
@@ -95,7 +95,7 @@ fn order_twelve(rt: HostRuntime) -> Result<(), Fail> {
 
 #[test]
 fn order_eighteen(rt: HostRuntime) -> Result<(), Fail> {
-    let tools = Tools::open(rt.alloc())?;
+    let tools = Tools::new(rt.alloc());
     assert_candidates(
         &rt,
         &tools,
@@ -124,7 +124,7 @@ fn order_eighteen(rt: HostRuntime) -> Result<(), Fail> {
 
 #[test]
 fn order_twenty_six(rt: HostRuntime) -> Result<(), Fail> {
-    let tools = Tools::open(rt.alloc())?;
+    let tools = Tools::new(rt.alloc());
     assert_candidates(
         &rt,
         &tools,
@@ -173,7 +173,7 @@ fn order_twenty_six(rt: HostRuntime) -> Result<(), Fail> {
 
 #[test]
 fn premises_of_candidates(rt: HostRuntime) -> Result<(), Fail> {
-    let tools = Tools::open(rt.alloc())?;
+    let tools = Tools::new(rt.alloc());
     assert_premises(
         &rt,
         &tools,
@@ -215,7 +215,7 @@ fn premises_of_candidates(rt: HostRuntime) -> Result<(), Fail> {
 // Parameters out of range, in another order, past those of the rule, of a rule of another order or of another kind.
 #[test]
 fn steps_that_are_none(rt: HostRuntime) -> Result<(), Fail> {
-    let tools = Tools::open(rt.alloc())?;
+    let tools = Tools::new(rt.alloc());
     assert_none(
         &rt,
         &tools,

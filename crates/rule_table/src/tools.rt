@@ -1,26 +1,15 @@
-use design_base::Memory;
-use field_tables::Fields;
 use std::alloc::Global;
 
-/// What the table of rules is read with: the fields of the listed orders.
+/// What the table of rules is read with.
 #[derive(Drop)]
 pub struct Tools {
     alloc: Global,
-    fields: Fields,
 }
 
 impl Tools {
-    /// The fields of all listed orders.
-    pub fn open(alloc: Global) -> Result<Tools, Memory> {
-        Ok(Tools {
-            alloc,
-            fields: Fields::open(alloc)?,
-        })
-    }
-
-    /// The fields of the listed orders.
-    pub fn fields(&self) -> &Fields {
-        &self.fields
+    /// Tools that take their memory from `alloc`, and none before it is used.
+    pub fn new(alloc: Global) -> Tools {
+        Tools { alloc }
     }
 
     // Where memory is taken from.

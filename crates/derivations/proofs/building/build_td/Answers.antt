@@ -39,30 +39,25 @@ returns-in-Cyclic c =
     let s = cyclic_step c.args.k c.args.n (map (λ r. r.now) c.args.ingredients.now) _ c.args.step.now c.step.view_is c.in-Cyclic.is c.requires.bounds c.requires.candidate c.requires.ingredients in
     list_is c.cyclic.result _ _ c.cyclic.ensures.blocks (s.list ∙ ap (λ s. blocks (Td c.args.k c.args.n) s (map (λ r. r.now) c.args.ingredients.now)) c.step.view_is)
 
-pub field_td-requires-clause-two_groups : goal.field_td-requires-clause-two_groups
-field_td-requires-clause-two_groups c = (td_bounds c.args.k c.args.n c.requires.bounds).groups
+pub field_list-requires-clause-listed : goal.field_list-requires-clause-listed
+field_list-requires-clause-listed c = (field_step c.args.k c.args.n (map (λ r. r.now) c.args.ingredients.now) _ c.args.step.now c.step.view_is c.in-Field.is c.requires.bounds c.requires.candidate c.requires.ingredients).listed
 
-pub field_td-requires-clause-columns : goal.field_td-requires-clause-columns
-field_td-requires-clause-columns c =
+pub field_list-requires-clause-two_groups : goal.field_list-requires-clause-two_groups
+field_list-requires-clause-two_groups c = (td_bounds c.args.k c.args.n c.requires.bounds).groups
+
+pub field_list-requires-clause-groups : goal.field_list-requires-clause-groups
+field_list-requires-clause-groups c = (td_bounds c.args.k c.args.n c.requires.bounds).narrow
+
+pub field_list-requires-clause-columns : goal.field_list-requires-clause-columns
+field_list-requires-clause-columns c = (field_step c.args.k c.args.n (map (λ r. r.now) c.args.ingredients.now) _ c.args.step.now c.step.view_is c.in-Field.is c.requires.bounds c.requires.candidate c.requires.ingredients).columns
+
+pub field_list-requires-clause-points : goal.field_list-requires-clause-points
+field_list-requires-clause-points c = (td_bounds c.args.k c.args.n c.requires.bounds).few
+
+pub returns-in-Field : goal.returns-in-Field
+returns-in-Field c =
     let s = field_step c.args.k c.args.n (map (λ r. r.now) c.args.ingredients.now) _ c.args.step.now c.step.view_is c.in-Field.is c.requires.bounds c.requires.candidate c.requires.ingredients in
-    omega (arith, s.columns, c.in-Some.ensures.order)
-
-pub field_td-requires-clause-groups : goal.field_td-requires-clause-groups
-field_td-requires-clause-groups c = (td_bounds c.args.k c.args.n c.requires.bounds).narrow
-
-pub field_td-requires-clause-points : goal.field_td-requires-clause-points
-field_td-requires-clause-points c = omega (arith, (td_bounds c.args.k c.args.n c.requires.bounds).few, c.in-Some.ensures.order)
-
-pub unreachable-requires : goal.unreachable-requires
-unreachable-requires c =
-    let s = field_step c.args.k c.args.n (map (λ r. r.now) c.args.ingredients.now) _ c.args.step.now c.step.view_is c.in-Field.is c.requires.bounds c.requires.candidate c.requires.ingredients in
-    cc (s.listed, c.in-None.ensures.listed)
-
-pub returns-in-Some : goal.returns-in-Some
-returns-in-Some c =
-    let s = field_step c.args.k c.args.n (map (λ r. r.now) c.args.ingredients.now) _ c.args.step.now c.step.view_is c.in-Field.is c.requires.bounds c.requires.candidate c.requires.ingredients in
-    list_is c.field_td.result _ _ c.field_td.ensures.blocks
-    (ap (λ q. canonical (field_blocks c.args.k q)) c.in-Some.ensures.order ∙ s.list ∙ ap (λ s. blocks (Td c.args.k c.args.n) s (map (λ r. r.now) c.args.ingredients.now)) c.step.view_is)
+    list_is c.field_list.result _ _ c.field_list.ensures (s.list ∙ ap (λ s. blocks (Td c.args.k c.args.n) s (map (λ r. r.now) c.args.ingredients.now)) c.step.view_is)
 
 pub product-requires-clause-two_groups : goal.product-requires-clause-two_groups
 product-requires-clause-two_groups c = (td_bounds c.args.k c.args.n c.requires.bounds).groups
@@ -137,8 +132,8 @@ bounds-ingredients-0-in-Parker c =
     let s = parker_step c.args.k c.args.n (map (λ r. r.now) c.args.ingredients.now) _ c.args.step.now c.step.view_is c.in-Parker.is c.requires.bounds c.requires.candidate c.requires.ingredients in
     lent_within (λ r. r.now) c.args.ingredients.now _ s.count 0 (omega arith)
 
-pub unreachable-requires-in_default : goal.unreachable-requires-in_default
-unreachable-requires-in_default c =
+pub unreachable-requires : goal.unreachable-requires
+unreachable-requires c =
     rule_of_td c.args.k c.args.n _ c.args.step.now c.step.view_is c.requires.candidate c.in_default.not-TdOne c.in_default.not-Cyclic c.in_default.not-Field c.in_default.not-Product c.in_default.not-Parker c.in_default.not-Wilson1 c.in_default.not-Wilson2
 
 pub truncated_once-requires-clause-rule : goal.truncated_once-requires-clause-rule

@@ -1,0 +1,7 @@
+use Rattle.design_base.specs.declared.rule.Rule.TheVariants.{TdOne}
+use Rattle.design_base.specs.declared.rule.RuleTitle.{RuleTitle}
+use Rattle.design_base.proofs.RuleOrder.{drop_mapped}
+use Rattle.design_base.proofs.rule.rule_of.Goals as goal
+
+pub returns : goal.returns
+returns c = drop_mapped {X = RuleTitle} (λ t. t.rule) c.args.titles.now c.args.i _ TdOne c.requires
