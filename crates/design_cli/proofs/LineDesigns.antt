@@ -13,11 +13,11 @@ use Rattle.spaces.proofs.Geometries.{affine_blocks, affine_design, projective_bl
 use Rattle.spaces.proofs.Leads.{contains_point, is_lead, lead_one, lead_positive, length-points}
 use Rattle.spaces.proofs.PointSteps.{places-one, places-push}
 use Rattle.spaces.proofs.VectorSpaces.{space}
-use Rattle.spaces.proofs.WeightSteps.{listed_sum_one, projective-push, slopes-none, slopes-push}
+use Rattle.spaces.proofs.CoefficientSteps.{listed_sum_one, projective-push, slopes-none, slopes-push}
 use Rattle.spaces.specs.Lines.{affine_lines, projective_lines}
 use Rattle.spaces.specs.Points.{AreNumbers, ArePlaces, IsPlace, lead, point_count, points}
 use Rattle.spaces.specs.Vectors.{multiple}
-use Rattle.spaces.specs.Weights.{AreAffine, AreProjective, AreSlopes}
+use Rattle.spaces.specs.Coefficients.{AreAffine, AreProjective, AreSlopes}
 
 numbers_below : (v : ℕ) → AreNumbers v (list_below v (λ i. i))
 numbers_below v = record { count = length-list_below v (λ (i : ℕ). i); each = λ i l. get_or-list_below v (λ i. i) i 0 l }
@@ -35,12 +35,12 @@ module _ (q : ℕ) (listed : has_field q ≡ true) where
   negative : ℕ → ℕ
   negative t = (field.ring.negatives t).0
 
-  -- the weights (1 - t, t)
-  affine_weights : List (ℕ × ℕ)
-  affine_weights = list_below q (λ t. (field_sum q 1 (negative t), t))
+  -- the coefficients (1 - t, t)
+  affine_coefficients : List (ℕ × ℕ)
+  affine_coefficients = list_below q (λ t. (field_sum q 1 (negative t), t))
 
-  are_affine : AreAffine (field_sum q) q affine_weights
-  unfolding affine_weights negative
+  are_affine : AreAffine (field_sum q) q affine_coefficients
+  unfolding affine_coefficients negative
   are_affine = record {
     count = length-list_below q (λ t. (field_sum q 1 (negative t), t));
     second = λ t l. ap (λ (w : ℕ × ℕ). w.1) (get_or-list_below q (λ t. (field_sum q 1 (negative t), t)) t (0, 0) l);
@@ -53,8 +53,8 @@ module _ (q : ℕ) (listed : has_field q ≡ true) where
   listed_affine d =
       let numbers = numbers_below (q ^ d) in
       let vectors = list_below (q ^ d) (λ i. i) in
-      subst (λ B. IsBibd B (q ^ d) q 1) (affine_blocks q (field_sum q) (field_product q) field d vectors vectors affine_weights numbers numbers are_affine)
-      (affine_design q (field_sum q) (field_product q) field d vectors vectors affine_weights numbers numbers are_affine)
+      subst (λ B. IsBibd B (q ^ d) q 1) (affine_blocks q (field_sum q) (field_product q) field d vectors vectors affine_coefficients numbers numbers are_affine)
+      (affine_design q (field_sum q) (field_product q) field d vectors vectors affine_coefficients numbers numbers are_affine)
 
   -- each vector but 0 has a multiple that is a point
   place_of : (n x : ℕ) → 0 < x → x < q ^ n → (i : ℕ) × IsPlace (field_product q) q n x i
@@ -88,14 +88,14 @@ module _ (q : ℕ) (listed : has_field q ≡ true) where
       all zero e more = absurd (omega arith)
       all (suc v) e more = let found = places_below n v (omega arith) in (found.0, subst (λ m. ArePlaces (field_product q) q n m found.0) e found.1)
 
-  projective_weights : (W : List (ℕ × ℕ)) × AreProjective q W
-  projective_weights = let w = slopes q in (w.0 ++ (0, 1) ∷ [], projective-push q w.0 w.1)
+  projective_coefficients : (W : List (ℕ × ℕ)) × AreProjective q W
+  projective_coefficients = let w = slopes q in (w.0 ++ (0, 1) ∷ [], projective-push q w.0 w.1)
 
   pub listed_projective : (d : ℕ) → IsBibd (projective_lines q d) (point_count q d) (q + 1) 1
   unfolding projective_lines
   listed_projective d =
       let p = places (d + 1) in
-      let w = projective_weights in
+      let w = projective_coefficients in
       let e : suc q ≡ q + 1 = omega arith in
       subst (λ k. IsBibd (projective_lines q d) (point_count q d) k 1) e
       (subst (λ v. IsBibd (projective_lines q d) v (suc q) 1) (length-points q (order_above q listed) d)

@@ -3,7 +3,7 @@ use Rattle.std.proofs.Common.{Bool, List, [], ap, arith, cond, length, map, refl
 use Rattle.std.proofs.lemmas.List.{append-nil, append_assoc, length-map}
 use Rattle.counting.proofs.Counts.{join_below_more, join_below_none}
 use Rattle.spaces.specs.Least.{are_least, least_lines, lines_to}
-use Rattle.spaces.specs.Weights.{weighted_line}
+use Rattle.spaces.specs.Coefficients.{combined_line}
 
 module _ (line : ℕ → ℕ → List ℕ) where
   pub lines_to-none : (y : ℕ) → lines_to line y 0 ≡ []
@@ -26,8 +26,8 @@ module _ (line : ℕ → ℕ → List ℕ) where
   unfolding least_lines
   least_lines-more y = join_below_more y _
 
-pub length-weighted_line : (add mul : ℕ → ℕ → ℕ) (q n : ℕ) (P places : List ℕ) (W : List (ℕ × ℕ)) (i j : ℕ) → length (weighted_line add mul q n P places W i j) ≡ length W
-unfolding weighted_line
-length-weighted_line add mul q n P places W i j = length-map W _
+pub length-combined_line : (add mul : ℕ → ℕ → ℕ) (q n : ℕ) (P places : List ℕ) (W : List (ℕ × ℕ)) (i j : ℕ) → length (combined_line add mul q n P places W i j) ≡ length W
+unfolding combined_line
+length-combined_line add mul q n P places W i j = length-map W _
 
-pub ruleset least_steps = (append-nil, append_assoc, lines_to-none, lines_to-taken, lines_to-left, least_lines-none, least_lines-more, length-weighted_line)
+pub ruleset least_steps = (append-nil, append_assoc, lines_to-none, lines_to-taken, lines_to-left, least_lines-none, least_lines-more, length-combined_line)

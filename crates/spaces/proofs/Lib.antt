@@ -11,6 +11,6 @@ pub mod Geometries
 pub mod LeadSteps
 pub mod PointSteps
 pub mod LeastSteps
-pub mod WeightSteps
+pub mod CoefficientSteps
 pub mod Bounds
 pub mod ListedLines

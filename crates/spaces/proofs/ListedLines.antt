@@ -11,7 +11,7 @@ use Rattle.spaces.specs.GeometryLines.{IsAffine, IsProjective, line_in}
 use Rattle.spaces.specs.Least.{least_lines}
 use Rattle.spaces.specs.Lines.{affine_lines, projective_lines}
 use Rattle.spaces.specs.Points.{point_count, points}
-use Rattle.spaces.specs.Weights.{weighted_line}
+use Rattle.spaces.specs.Coefficients.{combined_line}
 use Rattle.spaces.specs.declared.geometry.Geometry.{Geometry}
 
 -- all lines of a geometry
@@ -20,7 +20,7 @@ all_lines g = canonical (least_lines (line_in g) (length g.points.items))
 
 -- the same over the field of q elements, on v points
 over : Geometry → ℕ → ℕ → List ℕ → ℕ → List (List ℕ)
-over g q n P v = canonical (least_lines (weighted_line (field_sum q) (field_product q) q n P g.places.items g.weights.items) v)
+over g q n P v = canonical (least_lines (combined_line (field_sum q) (field_product q) q n P g.places.items g.coefficients.items) v)
 
 module _ (g : Geometry) (q d : ℕ) (h : IsAffine q d g) where
   affine_over : all_lines g ≡ over g q d g.points.items (q ^ d)
@@ -29,12 +29,12 @@ module _ (g : Geometry) (q d : ℕ) (h : IsAffine q d g) where
 
   pub affine_listed : all_lines g ≡ affine_lines q d
   unfolding over affine_lines
-  affine_listed = affine_over ∙ affine_blocks q (field_sum q) (field_product q) (listed_field q h.listed) d g.points.items g.places.items g.weights.items h.points h.places h.weights
+  affine_listed = affine_over ∙ affine_blocks q (field_sum q) (field_product q) (listed_field q h.listed) d g.points.items g.places.items g.coefficients.items h.points h.places h.coefficients
 
   pub affine_is_design : IsBibd (all_lines g) (q ^ d) q 1
   unfolding over
   affine_is_design = subst (λ B. IsBibd B (q ^ d) q 1) (sym affine_over)
-      (affine_design q (field_sum q) (field_product q) (listed_field q h.listed) d g.points.items g.places.items g.weights.items h.points h.places h.weights)
+      (affine_design q (field_sum q) (field_product q) (listed_field q h.listed) d g.points.items g.places.items g.coefficients.items h.points h.places h.coefficients)
 
 module _ (g : Geometry) (q d : ℕ) (h : IsProjective q (d + 1) g) where
   projective_over : all_lines g ≡ over g q (d + 1) (points q (d + 1)) (length (points q (d + 1)))
@@ -43,7 +43,7 @@ module _ (g : Geometry) (q d : ℕ) (h : IsProjective q (d + 1) g) where
 
   pub projective_listed : all_lines g ≡ projective_lines q d
   unfolding over projective_lines
-  projective_listed = projective_over ∙ projective_blocks q (field_sum q) (field_product q) (listed_field q h.listed) (d + 1) g.places.items g.weights.items h.places h.weights
+  projective_listed = projective_over ∙ projective_blocks q (field_sum q) (field_product q) (listed_field q h.listed) (d + 1) g.places.items g.coefficients.items h.places h.coefficients
 
   count : length (points q (d + 1)) ≡ point_count q d
   count = length-points q (order_above q h.listed) d
@@ -55,7 +55,7 @@ module _ (g : Geometry) (q d : ℕ) (h : IsProjective q (d + 1) g) where
       subst (λ B. IsBibd B (point_count q d) (q + 1) 1) (sym projective_over)
       (subst (λ k. IsBibd (over g q (d + 1) (points q (d + 1)) (length (points q (d + 1)))) (point_count q d) k 1) e
       (subst (λ v. IsBibd (over g q (d + 1) (points q (d + 1)) (length (points q (d + 1)))) v (suc q) 1) count
-      (projective_design q (field_sum q) (field_product q) (listed_field q h.listed) (d + 1) g.places.items g.weights.items h.places h.weights)))
+      (projective_design q (field_sum q) (field_product q) (listed_field q h.listed) (d + 1) g.places.items g.coefficients.items h.places h.coefficients)))
 
   pub length-points_in : length g.points.items ≡ point_count q d
   length-points_in = ap length h.points ∙ count

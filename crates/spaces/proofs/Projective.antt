@@ -60,13 +60,13 @@ module _ (q v : ℕ) (add mul sum scale : ℕ → ℕ → ℕ) (space : IsSpace 
     pub multiple : (z : ℕ) → z < v → z ≢ 0 → (c : ℕ) × (c < q) × (scale c z ≡ get_or P (place z) 0)
 
   -- the mixes of x and y on their line: x + t * y for each t, and y
-  pub record AreWeights (a b : ℕ → ℕ) : Type 0 where
+  pub record AreCoefficients (a b : ℕ → ℕ) : Type 0 where
     pub one : (t : ℕ) → t < q → a t ≡ 1
     pub slope : (t : ℕ) → t < q → b t ≡ t
     pub last_zero : a q ≡ 0
     pub last_one : b q ≡ 1
 
-  module _ (P : List ℕ) (place : ℕ → ℕ) (placed : ArePlaced P place) (a b : ℕ → ℕ) (weights : AreWeights a b) where
+  module _ (P : List ℕ) (place : ℕ → ℕ) (placed : ArePlaced P place) (a b : ℕ → ℕ) (coefficients : AreCoefficients a b) where
     abbrev N : ℕ
     N = length P
 
@@ -78,14 +78,14 @@ module _ (q v : ℕ) (add mul sum scale : ℕ → ℕ → ℕ) (space : IsSpace 
 
     a_small : (t : ℕ) → t < suc q → a t < q
     a_small t h = elim (cases_lt t q) [
-      | inl m ↦ subst (λ c. c < q) (sym (weights.one t m)) r.one_below
-      | inr m ↦ subst (λ c. c < q) (sym (ap a (let e : t ≡ q = omega arith in e) ∙ weights.last_zero)) (positive q v add mul sum scale space)
+      | inl m ↦ subst (λ c. c < q) (sym (coefficients.one t m)) r.one_below
+      | inr m ↦ subst (λ c. c < q) (sym (ap a (let e : t ≡ q = omega arith in e) ∙ coefficients.last_zero)) (positive q v add mul sum scale space)
     ]
 
     b_small : (t : ℕ) → t < suc q → b t < q
     b_small t h = elim (cases_lt t q) [
-      | inl m ↦ subst (λ c. c < q) (sym (weights.slope t m)) m
-      | inr m ↦ subst (λ c. c < q) (sym (ap b (let e : t ≡ q = omega arith in e) ∙ weights.last_one)) r.one_below
+      | inl m ↦ subst (λ c. c < q) (sym (coefficients.slope t m)) m
+      | inr m ↦ subst (λ c. c < q) (sym (ap b (let e : t ≡ q = omega arith in e) ∙ coefficients.last_one)) r.one_below
     ]
 
     pub is_mix : (x y t : ℕ) → t < suc q → IsMix q v add mul sum scale space lead l x y (mix x y t) (a t) (b t)
@@ -107,8 +107,8 @@ module _ (q v : ℕ) (add mul sum scale : ℕ → ℕ → ℕ) (space : IsSpace 
       differ : at i ≢ at j
       differ e = ne (placed.apart i j hi hj e)
 
-      same_weights : (z m n k h : ℕ) → IsMix q v add mul sum scale space lead l (at i) (at j) z m n → IsMix q v add mul sum scale space lead l (at i) (at j) z k h → (m ≡ k) × (n ≡ h)
-      same_weights = one_mix q v add mul sum scale space lead l (at i) (at j) (placed.points i hi) (placed.points j hj) differ
+      same_coefficients : (z m n k h : ℕ) → IsMix q v add mul sum scale space lead l (at i) (at j) z m n → IsMix q v add mul sum scale space lead l (at i) (at j) z k h → (m ≡ k) × (n ≡ h)
+      same_coefficients = one_mix q v add mul sum scale space lead l (at i) (at j) (placed.points i hi) (placed.points j hj) differ
 
       zero_mix : IsMix q v add mul sum scale space lead l (at i) (at j) 0 0 0
       zero_mix = record {
@@ -119,10 +119,10 @@ module _ (q v : ℕ) (add mul sum scale : ℕ → ℕ → ℕ) (space : IsSpace 
 
       mix_nonzero : (t : ℕ) → t < suc q → mix (at i) (at j) t ≢ 0
       mix_nonzero t h e =
-          let w = same_weights 0 (a t) (b t) 0 0 (subst (λ z. IsMix q v add mul sum scale space lead l (at i) (at j) z (a t) (b t)) e (is_mix (at i) (at j) t h)) zero_mix in
+          let w = same_coefficients 0 (a t) (b t) 0 0 (subst (λ z. IsMix q v add mul sum scale space lead l (at i) (at j) z (a t) (b t)) e (is_mix (at i) (at j) t h)) zero_mix in
           elim (cases_lt t q) [
-            | inl m ↦ absurd (omega (arith, w.0, weights.one t m))
-            | inr m ↦ absurd (omega (arith, w.1, ap b (let f : t ≡ q = omega arith in f), weights.last_one))
+            | inl m ↦ absurd (omega (arith, w.0, coefficients.one t m))
+            | inr m ↦ absurd (omega (arith, w.1, ap b (let f : t ≡ q = omega arith in f), coefficients.last_one))
           ]
 
       place_small : (t : ℕ) → t < suc q → place (mix (at i) (at j) t) < N
@@ -141,7 +141,7 @@ module _ (q v : ℕ) (add mul sum scale : ℕ → ℕ → ℕ) (space : IsSpace 
           (sym (factor t h).2 ∙ ap (λ c. scale c (mix (at i) (at j) t)) e ∙ zero-scale q v add mul sum scale space (mix (at i) (at j) t))
 
       times_one : (c t : ℕ) → c < q → t < q → mul c (a t) ≡ c
-      times_one c t hc m = ap (mul c) (weights.one t m) ∙ r.one_neutral c hc
+      times_one c t hc m = ap (mul c) (coefficients.one t m) ∙ r.one_neutral c hc
 
       -- the places on a line differ
       places_differ : (t u : ℕ) → t < u → u < suc q → place (mix (at i) (at j) t) ≢ place (mix (at i) (at j) u)
@@ -150,15 +150,15 @@ module _ (q v : ℕ) (add mul sum scale : ℕ → ℕ → ℕ) (space : IsSpace 
           let m : t < q = omega arith in
           let c = factor t ht in
           let d = factor u g in
-          let same = same_weights (at (place (mix (at i) (at j) u))) (mul c.0 (a t)) (mul c.0 (b t)) (mul d.0 (a u)) (mul d.0 (b u))
+          let same = same_coefficients (at (place (mix (at i) (at j) u))) (mul c.0 (a t)) (mul c.0 (b t)) (mul d.0 (a u)) (mul d.0 (b u))
           (subst (λ k. IsMix q v add mul sum scale space lead l (at i) (at j) (at k) (mul c.0 (a t)) (mul c.0 (b t))) e (placed_mix t ht)) (placed_mix u g) in
           elim (cases_lt u q) [
             | inl k ↦ (
                 let equal : c.0 ≡ d.0 = sym (times_one c.0 t c.1 m) ∙ same.0 ∙ times_one d.0 u d.1 k in
-                let slopes : mul c.0 t ≡ mul c.0 u = ap (mul c.0) (sym (weights.slope t m)) ∙ same.1 ∙ ap₂ mul (sym equal) (weights.slope u k) in
+                let slopes : mul c.0 t ≡ mul c.0 u = ap (mul c.0) (sym (coefficients.slope t m)) ∙ same.1 ∙ ap₂ mul (sym equal) (coefficients.slope u k) in
                 let f : t ≡ u = mul_cancel q add mul r space.field.inverses c.0 t u (let nz = factor_nonzero t ht in omega arith) c.1 m k slopes in
                 omega arith)
-            | inr k ↦ factor_nonzero t ht (sym (times_one c.0 t c.1 m) ∙ same.0 ∙ ap (mul d.0) (ap a (let f : u ≡ q = omega arith in f) ∙ weights.last_zero) ∙ mul-zero q add mul r d.0)
+            | inr k ↦ factor_nonzero t ht (sym (times_one c.0 t c.1 m) ∙ same.0 ∙ ap (mul d.0) (ap a (let f : u ≡ q = omega arith in f) ∙ coefficients.last_zero) ∙ mul-zero q add mul r d.0)
           ]
 
       -- a point on the line is in the plane of the two points
@@ -182,12 +182,12 @@ module _ (q v : ℕ) (add mul sum scale : ℕ → ℕ → ℕ) (space : IsSpace 
       within_pair u hu h = elim (cases_eq h.0 0) [
         | inl none ↦ pair_holds u q h.1 hu (omega arith) h.2.second
             (expand q v add mul sum scale space lead l h.1 (a q) (b q) (at i) (at j)
-            ∙ ap₂ (λ m n. sum (scale m (at i)) (scale n (at j))) (ap (mul h.1) weights.last_zero ∙ mul-zero q add mul r h.1 ∙ sym none) (ap (mul h.1) weights.last_one ∙ r.one_neutral h.1 h.2.second) ∙ h.2.made)
+            ∙ ap₂ (λ m n. sum (scale m (at i)) (scale n (at j))) (ap (mul h.1) coefficients.last_zero ∙ mul-zero q add mul r h.1 ∙ sym none) (ap (mul h.1) coefficients.last_one ∙ r.one_neutral h.1 h.2.second) ∙ h.2.made)
         | inr some ↦ (
             let t = divide q add mul r space.field.inverses h.0 h.1 (let nz = some in omega arith) h.2.first h.2.second in
             pair_holds u t.0 h.0 hu (omega (arith, t.1)) h.2.first
             (expand q v add mul sum scale space lead l h.0 (a t.0) (b t.0) (at i) (at j)
-            ∙ ap₂ (λ m n. sum (scale m (at i)) (scale n (at j))) (times_one h.0 t.0 h.2.first t.1) (ap (mul h.0) (weights.slope t.0 t.1) ∙ t.2) ∙ h.2.made))
+            ∙ ap₂ (λ m n. sum (scale m (at i)) (scale n (at j))) (times_one h.0 t.0 h.2.first t.1) (ap (mul h.0) (coefficients.slope t.0 t.1) ∙ t.2) ∙ h.2.made))
       ]
 
       pub pair_differs : Differs (pair i j)

@@ -2,15 +2,15 @@
 use Rattle.std.specs.Prelude.{ℕ, ◌^◌, ◌≡◌, List, true}
 use Rattle.design_base.specs.Fields.{field_product, field_sum, has_field}
 use Rattle.spaces.specs.Points.{AreNumbers, ArePlaces, points}
-use Rattle.spaces.specs.Weights.{AreAffine, AreProjective, weighted_line, weighted_point}
+use Rattle.spaces.specs.Coefficients.{AreAffine, AreProjective, combined_line, combined_point}
 use Rattle.spaces.specs.declared.geometry.Geometry.{Geometry}
 
 abbrev pub point_in : Geometry → ℕ → ℕ → ℕ × ℕ → ℕ
-point_in g = weighted_point (field_sum g.field.now) (field_product g.field.now) g.field.now g.entries g.points.items g.places.items
+point_in g = combined_point (field_sum g.field.now) (field_product g.field.now) g.field.now g.entries g.points.items g.places.items
 
 -- the line of two points
 abbrev pub line_in : Geometry → ℕ → ℕ → List ℕ
-line_in g = weighted_line (field_sum g.field.now) (field_product g.field.now) g.field.now g.entries g.points.items g.places.items g.weights.items
+line_in g = combined_line (field_sum g.field.now) (field_product g.field.now) g.field.now g.entries g.points.items g.places.items g.coefficients.items
 
 -- all vectors of n entries over the field of q elements, each its own point
 pub record IsAffine (q n : ℕ) (g : Geometry) : Type 0 where
@@ -19,7 +19,7 @@ pub record IsAffine (q n : ℕ) (g : Geometry) : Type 0 where
   pub entries : g.entries ≡ n
   pub points : AreNumbers (q ^ n) g.points.items
   pub places : AreNumbers (q ^ n) g.places.items
-  pub weights : AreAffine (field_sum q) q g.weights.items
+  pub coefficients : AreAffine (field_sum q) q g.coefficients.items
 
 -- of the vectors of n entries over the field of q elements those whose first nonzero entry is 1
 pub record IsProjective (q n : ℕ) (g : Geometry) : Type 0 where
@@ -28,4 +28,4 @@ pub record IsProjective (q n : ℕ) (g : Geometry) : Type 0 where
   pub entries : g.entries ≡ n
   pub points : g.points.items ≡ points q n
   pub places : ArePlaces (field_product q) q n (q ^ n) g.places.items
-  pub weights : AreProjective q g.weights.items
+  pub coefficients : AreProjective q g.coefficients.items

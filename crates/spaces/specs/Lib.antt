@@ -2,5 +2,5 @@ pub mod Vectors
 pub mod Points
 pub mod Lines
 pub mod Least
-pub mod Weights
+pub mod Coefficients
 pub mod GeometryLines

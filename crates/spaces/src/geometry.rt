@@ -1,18 +1,18 @@
 // Geometries of vectors, in which two points have one line.
 ghost use Rattle.std.specs.Prelude.{◌≡◌, ◌^◌, ◌<◌, IfOk, length};
 ghost use Rattle.spaces.specs.Points.{AreNumbers};
-ghost use Rattle.spaces.specs.Weights.{AreElements};
+ghost use Rattle.spaces.specs.Coefficients.{AreElements};
 
+use crate::coefficients::{affine_coefficients, projective_coefficients};
 use crate::points::{places, points};
 use crate::vectors::combination;
-use crate::weights::{affine_weights, projective_weights};
 use design_base::{Memory, PACKED_MAX, POINTS_MAX};
 use field_tables::Field;
 use incidence::Rows;
 use std::alloc::Global;
 
 // The points are vectors over a field. The line of two points x and y holds the points of the vectors a * x + b * y, where the
-// weights (a, b) are listed.
+// coefficients (a, b) are listed.
 #[derive(Drop)]
 pub struct Geometry<'a> {
     // The field.
@@ -23,11 +23,11 @@ pub struct Geometry<'a> {
     points: Vec<u16>,
     // The point of each vector.
     places: Vec<u16>,
-    // The weights.
-    weights: Vec<(u16, u16)>,
+    // The coefficients.
+    coefficients: Vec<(u16, u16)>,
     ghost fits: { field.now ^ entries < 2 ^ 16 },
     ghost placed: { length places.items ≡ field.now ^ entries },
-    ghost elements: { AreElements field.now weights.items },
+    ghost elements: { AreElements field.now coefficients.items },
 }
 
 // The numbers below `v`, in order.
@@ -58,7 +58,7 @@ impl<'a> Geometry<'a> {
             entries: d,
             points: numbers(alloc, vectors)?,
             places: numbers(alloc, vectors)?,
-            weights: affine_weights(alloc, field)?,
+            coefficients: affine_coefficients(alloc, field)?,
         })
     }
 
@@ -74,13 +74,13 @@ impl<'a> Geometry<'a> {
         let vectors = q.pow(u32::from(n));
         let points = points(alloc, q, n, vectors)?;
         let places = places(alloc, field, n, &points, vectors)?;
-        let weights = projective_weights(alloc, field)?;
+        let coefficients = projective_coefficients(alloc, field)?;
         Ok(Geometry {
             field,
             entries: n,
             points,
             places,
-            weights,
+            coefficients,
         })
     }
 }
@@ -93,43 +93,43 @@ impl Geometry<'_> {
     ghost use Rattle.spaces.specs.Least.{are_least, least_lines, lines_to};
 
     // The point of the vector a * x + b * y.
-    fn point(&self, x: u16, y: u16, weights: (u16, u16)) -> u16
+    fn point(&self, x: u16, y: u16, coefficients: (u16, u16)) -> u16
         requires first { x < length self.now.points.items }
         requires second { y < length self.now.points.items }
-        requires weights { (weights.0 < self.now.field.now) × (weights.1 < self.now.field.now) }
-        ensures { result ≡ point_in self.now x y weights }
+        requires coefficients { (coefficients.0 < self.now.field.now) × (coefficients.1 < self.now.field.now) }
+        ensures { result ≡ point_in self.now x y coefficients }
     {
-        let (a, b) = weights;
+        let (a, b) = coefficients;
         let x = self.points[x as usize];
         let y = self.points[y as usize];
         self.places[combination(self.field, self.entries, a, x, b, y) as usize]
     }
 
     // Whether x and y are the two least points of their line.
-    #[tactic(auto, unfolding(crate::specs::Weights::weighted_line))]
+    #[tactic(auto, unfolding(crate::specs::Coefficients::combined_line))]
     fn are_least(&self, x: u16, y: u16) -> bool
         requires first { x < length self.now.points.items }
         requires second { y < length self.now.points.items }
         ensures { result ≡ are_least x y (line_in self.now x y) }
     {
         let mut line = self
-            .weights
+            .coefficients
             .iter()
-            .map(|weights| self.point(x, y, *weights));
+            .map(|coefficients| self.point(x, y, *coefficients));
         line.all(|z| z == x || z >= y)
     }
 
     // The line of x and y.
-    #[tactic(auto, unfolding(crate::specs::Weights::weighted_line))]
+    #[tactic(auto, unfolding(crate::specs::Coefficients::combined_line))]
     fn line(&self, alloc: Global, x: u16, y: u16) -> Result<Vec<u16>, Memory>
         requires first { x < length self.now.points.items }
         requires second { y < length self.now.points.items }
         ensures { IfOk result (λ line. line.items ≡ line_in self.now x y) }
     {
         let line = self
-            .weights
+            .coefficients
             .iter()
-            .map(|weights| self.point(x, y, *weights))
+            .map(|coefficients| self.point(x, y, *coefficients))
             .collect(alloc)?;
         Ok(line)
     }
@@ -138,9 +138,9 @@ impl Geometry<'_> {
     #[tactic(auto, using(crate::proofs::LeastSteps::least_steps))]
     fn push_lines_to(&self, alloc: Global, rows: &mut Rows, y: u16) -> Result<(), Memory>
         requires point { y < length self.now.points.items }
-        requires room { size_of rows.old + y * (length self.now.weights.items + 1) < PACKED_MAX }
+        requires room { size_of rows.old + y * (length self.now.coefficients.items + 1) < PACKED_MAX }
         ensures ok { OnOk result (rows.new ≡ rows.old ++ lines_to (line_in self.now) y y) }
-        ensures size { OnOk result (size_of rows.new ≤ size_of rows.old + y * (length self.now.weights.items + 1)) }
+        ensures size { OnOk result (size_of rows.new ≤ size_of rows.old + y * (length self.now.coefficients.items + 1)) }
     {
         for x in 0..y {
             if self.are_least(x, y) {
@@ -154,7 +154,7 @@ impl Geometry<'_> {
     #[tactic(auto, using(crate::proofs::LeastSteps::least_steps))]
     pub fn lines(&self, alloc: Global) -> Result<Rows, Memory>
         requires points { length self.now.points.items ≤ POINTS_MAX }
-        requires weights { length self.now.weights.items ≤ POINTS_MAX + 1 }
+        requires coefficients { length self.now.coefficients.items ≤ POINTS_MAX + 1 }
         ensures { IfOk result (λ rows. rows ≡ canonical (least_lines (line_in self.now) (length self.now.points.items))) }
     {
         let mut rows = Rows::new(alloc);

@@ -6,10 +6,10 @@ ghost use Rattle.design_base.specs.Blocks.{IsBibd};
 ghost use Rattle.spaces.specs.Lines.{affine_lines as affine_lines_of, projective_lines as projective_lines_of};
 ghost use Rattle.spaces.specs.Points.{point_count};
 
+mod coefficients;
 mod geometry;
 mod points;
 mod vectors;
-mod weights;
 
 use design_base::{Memory, POINTS_MAX};
 use field_tables::Field;

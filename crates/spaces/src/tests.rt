@@ -1,6 +1,10 @@
+ghost use Rattle.std.specs.Prelude.{◌≤◌};
+
 use crate::{affine_lines, projective_lines};
-use field_tables::Fields;
+use design_base::{FIELD_ORDERS, POINTS_MAX};
+use field_tables::{Field, Fields};
 use incidence::Rows;
+use std::alloc::Global;
 use std::process::Abort;
 use std::test::Fail;
 
@@ -79,5 +83,39 @@ fn spaces_of_many_lines(rt: HostRuntime) -> Result<(), Fail> {
     let five = fields.field(5).ok_or("no field")?;
     assert_eq!(rt; five.order(), 5);
     assert_eq!(rt; affine_lines(rt.alloc(), five, 3)?.len(), 775);
+    Ok(())
+}
+
+// Each two of v points have one of the lines of k points.
+fn assert_count(rt: &impl Abort, lines: &Rows, v: u16, k: u16) {
+    let pairs_of = |n: u16| u64::from(n) * u64::from(n.saturating_sub(1));
+    let covered = pairs_of(k).saturating_mul(lines.len() as u64);
+    assert_eq!(rt; covered, pairs_of(v));
+}
+
+// The affine geometry of dimension d over a field, where it has at most POINTS_MAX points.
+fn assert_affine(rt: &impl Abort, alloc: Global, field: &Field, d: u16) -> Result<(), Fail>
+    requires { 1 ≤ d }
+{
+    let q = field.order();
+    let Some(v) = q.checked_pow(u32::from(d)) else {
+        return Ok(());
+    };
+    if v <= POINTS_MAX {
+        let lines = affine_lines(alloc, field, d)?;
+        assert_count(rt, &lines, v, q);
+    }
+    Ok(())
+}
+
+#[test]
+fn every_affine_geometry(rt: HostRuntime) -> Result<(), Fail> {
+    let fields = Fields::open(rt.alloc())?;
+    for q in FIELD_ORDERS {
+        let field = fields.field(q).ok_or("no field")?;
+        for d in 1..8 {
+            assert_affine(&rt, rt.alloc(), field, d)?;
+        }
+    }
     Ok(())
 }

@@ -10,7 +10,7 @@ use field_tables::Field;
 // The vector a * x + b * y.
 #[tactic(auto)]
 pub fn combination(field: &Field, n: u16, a: u16, x: u16, b: u16, y: u16) -> u16
-    requires weights { (a < field.now) × (b < field.now) }
+    requires coefficients { (a < field.now) × (b < field.now) }
     requires fits { field.now ^ n < 2 ^ 16 }
     ensures value { result ≡ combination_of (field_sum field.now) (field_product field.now) field.now n a x b y }
     ensures below { result < field.now ^ n }

@@ -5,10 +5,10 @@ use Rattle.spaces.proofs.ListedLines.{affine_is_design, affine_listed}
 use Rattle.spaces.specs.GeometryLines.{IsAffine}
 use Rattle.spaces.proofs.affine_lines.Goals as goal
 
-pub lines-requires-clause-weights : goal.lines-requires-clause-weights
-lines-requires-clause-weights c =
+pub lines-requires-clause-coefficients : goal.lines-requires-clause-coefficients
+lines-requires-clause-coefficients c =
     let h : IsAffine c.args.field.now c.args.d c.in_ok-geometry.geometry = c.in_ok-geometry.ensures in
-    omega (arith, h.weights.count, order_below c.args.field.now c.args.d (order_above c.args.field.now h.listed) c.requires.dimension)
+    omega (arith, h.coefficients.count, order_below c.args.field.now c.args.d (order_above c.args.field.now h.listed) c.requires.dimension)
 
 pub returns-clause-blocks : goal.returns-clause-blocks
 returns-clause-blocks c = c.in_ok-lines.ensures ∙ affine_listed c.in_ok-geometry.geometry c.args.field.now c.args.d c.in_ok-geometry.ensures

@@ -9,10 +9,10 @@ use Rattle.spaces.proofs.projective_lines.Goals as goal
 pub lines-requires-clause-points : goal.lines-requires-clause-points
 lines-requires-clause-points c = omega (arith, length-points_in c.in_ok-geometry.geometry c.args.field.now c.args.d c.in_ok-geometry.ensures, c.requires.in_bounds)
 
-pub lines-requires-clause-weights : goal.lines-requires-clause-weights
-lines-requires-clause-weights c =
+pub lines-requires-clause-coefficients : goal.lines-requires-clause-coefficients
+lines-requires-clause-coefficients c =
     let h : IsProjective c.args.field.now (c.args.d + 1) c.in_ok-geometry.geometry = c.in_ok-geometry.ensures in
-    omega (arith, h.weights.count, order_small c.args.field.now c.args.d c.requires.dimension, c.requires.in_bounds)
+    omega (arith, h.coefficients.count, order_small c.args.field.now c.args.d c.requires.dimension, c.requires.in_bounds)
 
 pub returns-clause-blocks : goal.returns-clause-blocks
 returns-clause-blocks c = c.in_ok-lines.ensures ∙ projective_listed c.in_ok-geometry.geometry c.args.field.now c.args.d c.in_ok-geometry.ensures

@@ -10,7 +10,7 @@ returns-then-n-eq0-clause-value t c = sym (combination-none c.args.field.now (fi
 
 pub combination-requires : goal.combination-requires
 combination-requires t c = let one : 1 < c.args.field.now = order_above c.args.field.now c.order-q.ensures.listed in
-    (omega arith, (c.requires.weights, power-pred c.args.field.now c.args.n 65536 (omega arith) (omega arith) c.requires.fits))
+    (omega arith, (c.requires.coefficients, power-pred c.args.field.now c.args.n 65536 (omega arith) (omega arith) c.requires.fits))
 
 below : (t : ℕ) (c : goal.After-combination t) → c.add-first.result + c.order-q.result * c.combination.result < c.args.field.now ^ c.args.n
 below t c =

@@ -7,5 +7,5 @@ use Rattle.spaces.proofs.geometry.Geometry.lines.Given as goal
 abbrev pub invariant-loop-y : goal.invariant-loop-y
 invariant-loop-y l = record {
   listed : l.rows ≡ least_lines (line_in l.self) l.y;
-  small : size_of l.rows ≤ l.y * (length l.self.points.items * (length l.self.weights.items + 1));
+  small : size_of l.rows ≤ l.y * (length l.self.points.items * (length l.self.coefficients.items + 1));
 }

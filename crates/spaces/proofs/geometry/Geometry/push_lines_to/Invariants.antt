@@ -7,5 +7,5 @@ use Rattle.spaces.proofs.geometry.Geometry.push_lines_to.Given as goal
 abbrev pub invariant-loop-x : goal.invariant-loop-x
 invariant-loop-x l = record {
   listed : l.rows ≡ l.initial.rows ++ lines_to (line_in l.self) l.y l.x;
-  small : size_of l.rows ≤ size_of l.initial.rows + l.x * (length l.self.weights.items + 1);
+  small : size_of l.rows ≤ size_of l.initial.rows + l.x * (length l.self.coefficients.items + 1);
 }

@@ -1,4 +1,4 @@
--- The line of two points is made of their combinations a * x + b * y for certain weights (a, b).
+-- The line of two points is made of their combinations a * x + b * y for certain coefficients (a, b).
 use Rattle.std.specs.Prelude.{ℕ, ◌+◌, ◌<◌, ◌≡◌, List, All, length, map}
 use Rattle.std.proofs.Common.{get_or}
 use Rattle.spaces.specs.Vectors.{combination}
@@ -26,8 +26,8 @@ AreElements q W = All (λ w. (w.0 < q) × (w.1 < q)) W
 
 module _ (add mul : ℕ → ℕ → ℕ) (q n : ℕ) (points places : List ℕ) where
   -- the place of a combination of the points at i and j
-  abbrev pub weighted_point : ℕ → ℕ → ℕ × ℕ → ℕ
-  weighted_point i j w = get_or places (combination add mul q n w.0 (get_or points i 0) w.1 (get_or points j 0)) 0
+  abbrev pub combined_point : ℕ → ℕ → ℕ × ℕ → ℕ
+  combined_point i j w = get_or places (combination add mul q n w.0 (get_or points i 0) w.1 (get_or points j 0)) 0
 
-  unfoldable pub weighted_line : List (ℕ × ℕ) → ℕ → ℕ → List ℕ
-  weighted_line W i j = map (weighted_point i j) W
+  unfoldable pub combined_line : List (ℕ × ℕ) → ℕ → ℕ → List ℕ
+  combined_line W i j = map (combined_point i j) W

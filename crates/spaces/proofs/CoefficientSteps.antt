@@ -1,11 +1,11 @@
--- How the weights are listed.
+-- How the coefficients are listed.
 use Rattle.std.proofs.Common.{List, [], ap, arith, get_or, inl, inr, length, refl, subst, sym, true, ℕ, ◌++◌, ◌+◌, ◌<◌, ◌∙◌, ◌∷◌, ◌≡◌}
 use Rattle.std.proofs.lemmas.Bool.{cases_eq}
 use Rattle.std.proofs.lemmas.List.{get_or_append_left, get_or_push, length_push}
 use Rattle.design_base.specs.Fields.{field_sum, has_field}
 use Rattle.field_tables.proofs.Listed.{listed_field}
 use Rattle.spaces.proofs.Bounds.{order_above}
-use Rattle.spaces.specs.Weights.{AreAffine, AreProjective, AreSlopes}
+use Rattle.spaces.specs.Coefficients.{AreAffine, AreProjective, AreSlopes}
 use Rattle.field_tables.proofs.Listed.{listed_field}
 
 pub affine-none : (add : ℕ → ℕ → ℕ) → AreAffine add 0 []
@@ -47,4 +47,4 @@ listed_sum_one q t m listed e =
     let r = (listed_field q listed).ring in
     r.sums_associate 1 m t ∙ ap (field_sum q 1) (r.sums_commute m t ∙ e) ∙ r.zero_neutral 1 r.one_below
 
-pub ruleset weight_steps = (affine-none, slopes-none, affine-push, slopes-push, projective-push, order_above)
+pub ruleset coefficient_steps = (affine-none, slopes-none, affine-push, slopes-push, projective-push, order_above)
