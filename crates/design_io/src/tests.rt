@@ -21,6 +21,7 @@ fn reads_within_the_limit(rt: HostRuntime) -> Result<(), Fail> {
     for (bytes, failing, limit, want) in [
         ("", 0, 0, Ok("")),
         ("ab\ncd", 0, 5, Ok("ab\ncd")),
+        ("ab\ncd", 0, 4, Err(ReadEnd::TooLong { line: 2 })),
         ("ab\ncd", 0, 3, Err(ReadEnd::TooLong { line: 2 })),
         ("ab\ncd", 0, 2, Err(ReadEnd::TooLong { line: 1 })),
         ("ab\ncd", 1, 5, Err(ReadEnd::Failed)),
@@ -93,13 +94,40 @@ impl Write for Interrupting {
 
 #[test]
 fn interrupted_calls_are_made_again(rt: HostRuntime) {
-    for (calls, want) in [(0, Ok(())), (TRIES - 1, Ok(())), (TRIES, Err(Failed))] {
+    for (calls, want) in [(0, Ok(())), (999, Ok(())), (1_000, Err(Failed))] {
         let mut source = StdSource::new(Interrupting { calls });
         let end = source.read(&mut [0; 2]);
         assert_eq!(rt; end, want.map(|()| 0), "{calls} reads");
         let mut sink = StdSink::new(Interrupting { calls });
         assert_eq!(rt; write_whole(&mut sink, b"ab"), want, "{calls} writes");
     }
+}
+
+// It takes no byte, and counts the calls.
+#[derive(Drop)]
+struct Idle {
+    calls: u32,
+}
+
+impl Write for Idle {
+    fn write(&mut self, _buf: &[u8]) -> io::Result<usize> {
+        self.calls = self.calls.saturating_add(1);
+        Ok(0)
+    }
+
+    fn flush(&mut self) -> io::Result<()> {
+        Ok(())
+    }
+}
+
+#[test]
+fn a_writer_that_takes_nothing_is_called_once(rt: HostRuntime) {
+    let mut writer = Idle { calls: 0 };
+    assert_eq!(rt;
+        write_whole(&mut StdSink::new(&mut writer), b"ab"),
+        Err(Failed)
+    );
+    assert_eq!(rt; writer.calls, 1);
 }
 
 #[test]
