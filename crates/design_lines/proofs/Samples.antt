@@ -1,10 +1,10 @@
 -- Small values of the definitions, computed.
-use Rattle.std.proofs.Common.{◌≡◌, List, ℕ, [], ◌∷◌, ◌++◌, Some, None, Result, Ok, Err, refl}
+use Rattle.std.proofs.Common.{◌≡◌, [], ◌∷◌, ◌++◌, Some, None, Ok, Err, refl}
 use Rattle.std.specs.Fmt.{digits}
 use Rattle.std.specs.Prelude.{codes}
 use Rattle.design_base.specs.Limits.{in_bounds}
 use Rattle.design_base.specs.Steps.{step}
-use Rattle.design_base.specs.declared.query.Group.TheVariants.{Cyclic, Field}
+use Rattle.design_base.specs.declared.query.Group.TheVariants.{Field}
 use Rattle.design_base.specs.declared.query.Query.TheVariants.{Td, Df, Bibd}
 use Rattle.design_base.specs.declared.rule.Rule.TheVariants.{Wilson1, PbdDelete}
 use Rattle.design_lines.specs.declared.command.Command.TheVariants.{On}
@@ -13,7 +13,7 @@ use Rattle.design_lines.specs.declared.command.Shape.TheVariants.{Blocks, Square
 use Rattle.design_lines.specs.declared.command.Verb.TheVariants.{Ask, Build, Explain}
 use Rattle.design_lines.specs.Words.{number_of, words_of}
 use Rattle.design_lines.specs.Reading.{at_end, is_next, no_fixed_word, number, one_of_or, pair, triple}
-use Rattle.design_lines.specs.Grammar.{batch_lines, groups, input_line, input_lines, other_lines, other_questions, parse, parse_in_batch, question, questions}
+use Rattle.design_lines.specs.Grammar.{batch_lines, input_line, input_lines, other_lines, other_questions, parse, parse_in_batch, question, questions}
 use Rattle.design_lines.specs.BlockLines.{block_line, block_number, numbers_of}
 use Rattle.design_lines.specs.Printed.{question_words, spaced, step_words}
 

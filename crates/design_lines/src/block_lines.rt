@@ -75,8 +75,9 @@ fn numbers_of_line(alloc: Global, line: &[u8]) -> Result<Vec<u16>, BlockLineEnd>
 
 /// Appends the numbers of a block line as one row, in their order, and tells whether there were any. A block line has
 /// numbers of 1 to 5 digits, each at most 65,535, with runs of spaces and tabs between them and at either end; leading
-/// zeros are allowed, and so is one carriage return as the last byte. A line without numbers adds nothing. `Bad` comes
-/// exactly where the line is no block line. After a refusal the rows are as before.
+/// zeros are allowed, and so is one carriage return as the last byte. A line without numbers adds nothing. There is room for
+/// the numbers of a block line in the rows. `Bad` comes exactly where the line is no block line, and `Memory` only for want of
+/// memory. After a refusal the rows are as before.
 pub fn push_block_line(alloc: Global, rows: &mut Rows, line: &[u8]) -> Result<bool, BlockLineEnd>
     requires { IfSome (block_line line.now) (λ row. size_of rows.old + length row + 1 < PACKED_MAX) }
     ensures ok { IfOk result (AddsLine rows.old rows.new line.now) }

@@ -31,7 +31,7 @@ pub struct Words<'a> {
 impl<'a> Model for Words<'a> {
     ghost use Rattle.std.specs.Prelude.{ℕ, ◌+◌, ◌<◌, ◌^◌, List, length};
     ghost use Rattle.design_base.specs.Limits.{HasFewDigits};
-ghost use Rattle.design_lines.specs.Reading.{Rest};
+    ghost use Rattle.design_lines.specs.Reading.{Rest};
 
     ghost Value = { Rest };
 
