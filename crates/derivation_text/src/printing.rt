@@ -1,16 +1,17 @@
 //! Printing a derivation: version 1 of its text.
-ghost use Rattle.std.specs.Prelude.{◌≡◌, ◌+◌, ◌*◌, ◌≤◌, All, length};
+ghost use Rattle.std.specs.Prelude.{◌≡◌, ◌+◌, ◌*◌, ◌≤◌, OnErr, OnOk, length};
 ghost use Rattle.std.specs.List.{flat_map};
 ghost use Rattle.design_base.specs.declared.limits.TheConstants.{PREMISES_MAX};
-ghost use Rattle.design_io.specs.Faults.{HasCause};
+ghost use Rattle.design_io.specs.Faults.{HasCause, counted};
 ghost use Rattle.design_io.specs.Pieces.{AppendsWhole};
 ghost use Rattle.design_lines.specs.Printed.{with_words};
 ghost use Rattle.design_lines.specs.declared.line.TheConstants.{LINE_ROOM};
+ghost use Rattle.derivations.specs.Spelled.{ArePrintable};
 ghost use Rattle.derivation_text.specs.Text.{derivation_lines, from_words, numbered_line as numbered_text, numbered_lines};
 
 use derivations::{Derivation, Line};
 use design_io::{Failed, Sink, write_whole};
-use design_lines::{Line as TextLine, counted_line, question_text, step_text};
+use design_lines::{TextLine, counted_line, question_text, step_text};
 
 // Appends the numbers of the lines that a line names, where it names any.
 #[tactic(auto, using(crate::proofs::Texts::from_none, design_lines::proofs::Joined::numbers_more))]
@@ -45,9 +46,11 @@ fn numbered_line(number: u64, line: &Line) -> TextLine
 
 // Writes the lines, numbered from 1 on.
 fn write_numbered<K: Sink>(lines: &[Line], sink: &mut K) -> Result<(), Failed>
-    requires few { All (λ l. length l.from ≤ PREMISES_MAX) lines.now }
+    requires few { ArePrintable lines.now }
     ensures bytes { AppendsWhole (K.held sink.old) (K.held sink.new) result (flat_map (λ line. line) (numbered_lines 1 lines.now)) }
     ensures cause { HasCause (K.faults sink.old) (K.faults sink.new) result }
+    ensures kept { OnOk result (K.faults sink.new ≡ K.faults sink.old) }
+    ensures failed { OnErr result (K.faults sink.new ≡ counted (K.faults sink.old)) }
 {
     for (i, line) in lines.iter().enumerate() {
         write_whole(sink, numbered_line(i as u64 + 1, line).bytes())?;
@@ -57,11 +60,14 @@ fn write_numbered<K: Sink>(lines: &[Line], sink: &mut K) -> Result<(), Failed>
 
 /// Writes the text of a derivation, version 1: a line `derivation 1`; each line with its number, from 1 on, its question, its
 /// step and, where it names any, the lines that it names; and `end` with the number of lines. No line names more than
-/// `PREMISES_MAX` others. `Failed` comes only where the sink failed, and then a front of the text was appended.
+/// `PREMISES_MAX` others. `Failed` comes at the first write that fails, which counts as one fault; a proper front of the text was
+/// appended then.
 pub fn print_v1<K: Sink>(lines: &Derivation, sink: &mut K) -> Result<(), Failed>
-    requires few { All (λ l. length l.from ≤ PREMISES_MAX) lines.now }
+    requires few { ArePrintable lines.now }
     ensures bytes { AppendsWhole (K.held sink.old) (K.held sink.new) result (flat_map (λ line. line) (derivation_lines lines.now)) }
     ensures cause { HasCause (K.faults sink.old) (K.faults sink.new) result }
+    ensures kept { OnOk result (K.faults sink.new ≡ K.faults sink.old) }
+    ensures failed { OnErr result (K.faults sink.new ≡ counted (K.faults sink.old)) }
 {
     write_whole(sink, counted_line("derivation", 1).bytes())?;
     write_numbered(lines.as_slice(), sink)?;

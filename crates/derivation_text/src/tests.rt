@@ -1,5 +1,5 @@
-ghost use Rattle.std.specs.Prelude.{◌≤◌, ◌↔◌, All, IsTrue, length};
-ghost use Rattle.design_base.specs.declared.limits.TheConstants.{PREMISES_MAX as MOST};
+ghost use Rattle.std.specs.Prelude.{◌↔◌, IsTrue};
+ghost use Rattle.derivations.specs.Spelled.{ArePrintable};
 
 use crate::print_v1;
 use derivations::{Derivation, Line, Names};
@@ -34,7 +34,7 @@ fn derivation(alloc: Global, rows: &[Row]) -> Result<Derivation, Memory> {
 
 // Whether no line names too many others.
 fn are_few(lines: &[Line]) -> bool
-    ensures { IsTrue result ↔ All (λ l. length l.from ≤ MOST) lines.now }
+    ensures { IsTrue result ↔ ArePrintable lines.now }
 {
     lines
         .iter()
@@ -47,7 +47,7 @@ fn printed(
     lines: &Derivation,
     failing: u32,
 ) -> Result<(Result<(), Failed>, MemorySink), Memory>
-    requires { All (λ l. length l.from ≤ MOST) lines.now }
+    requires { ArePrintable lines.now }
 {
     let mut numbers = Vec::new(alloc);
     numbers.push(failing)?;

@@ -1,6 +1,6 @@
 -- What holds of derivations and of what they lead to.
-use Rattle.std.specs.Prelude.{◌≡◌, true, All, List, Some}
-use Rattle.design_base.specs.Limits.{in_bounds}
+use Rattle.std.specs.Prelude.{◌≡◌, true, All, List, Some, length}
+use Rattle.design_base.specs.Limits.{HasFewDigits, in_bounds}
 use Rattle.design_base.specs.Meets.{Meets}
 use Rattle.design_base.specs.Steps.{Step}
 use Rattle.design_base.specs.declared.query.Query.{Query}
@@ -23,6 +23,6 @@ DerivationLaw =
 abbrev pub YesLaw : Type 0
 YesLaw = (q : Query) (s : Step) → in_bounds q ≡ true → verdict q ≡ Yes s → Meets q (replayed (derivation q))
 
--- each line of a sound derivation can be spelled
+-- Each line of a sound derivation can be spelled, where the number of its lines can: a line names lines before it.
 abbrev pub SpellingLaw : Type 0
-SpellingLaw = (D : List Line) → IsSound D → All IsSpellable D
+SpellingLaw = (D : List Line) → IsSound D → HasFewDigits (length D) → All IsSpellable D

@@ -3,7 +3,7 @@ use Rattle.std.proofs.Common.{◌≡◌, ℕ, Bool, true, false, List, [], ◌�
 use Rattle.std.specs.Prelude.{is_some}
 use Rattle.std.specs.List.{list_any}
 use Rattle.counting.specs.Search.{first_in}
-use Rattle.design_base.specs.Fields.{shapes, shape_of, order, has_field}
+use Rattle.design_base.specs.Fields.{moduli, modulus_of, order, has_field}
 use Rattle.design_base.specs.declared.query.TheConstants.{FIELD_ORDERS}
 
 -- a search finds something where some element passes
@@ -18,5 +18,5 @@ some-first_in {X} test (x ∷ xs) = by_test (test x) (some-first_in test xs)
 
 -- the orders are those of the listed polynomials
 pub order_listed : (q : ℕ) → list_any (λ order. order == q) FIELD_ORDERS ≡ has_field q
-unfolding shapes shape_of
-order_listed q = sym (some-first_in (λ s. order s == q) shapes)
+unfolding moduli modulus_of
+order_listed q = sym (some-first_in (λ s. order s == q) moduli)

@@ -7,7 +7,7 @@ use Rattle.design_base.specs.Blocks.{holds, cover, replication, across, differen
 use Rattle.design_base.specs.Canonical.{lex_le, canonical}
 use Rattle.design_base.specs.Arrays.{place, row_block, blocks_of_rows, rows_of_blocks, agree}
 use Rattle.design_base.specs.Squares.{cell}
-use Rattle.design_base.specs.Fields.{shapes, shape_of, field_sum, field_product, powers_from, gen}
+use Rattle.design_base.specs.Fields.{moduli, modulus_of, field_sum, field_product, powers_from, gen}
 use Rattle.design_base.specs.Limits.{in_bounds}
 use Rattle.design_base.specs.Cells.{cells, cell_of}
 use Rattle.design_base.specs.Meets.{group_add}
@@ -82,15 +82,15 @@ second_square = refl
 
 -- the field of nine elements: x + 1 and x + 2, and x times x is 2, since x * x + 1 is 0
 sum_of_nine : field_sum 9 4 5 ≡ 6
-unfolding field_sum shape_of shapes first_in
+unfolding field_sum modulus_of moduli first_in
 sum_of_nine = refl
 
 product_of_nine : field_product 9 3 3 ≡ 2
-unfolding field_product shape_of shapes first_in
+unfolding field_product modulus_of moduli first_in
 product_of_nine = refl
 
 generator_of_nine : gen 9 ≡ 4
-unfolding gen first_in each_passes is_among shapes shape_of powers_from field_product join_below
+unfolding gen first_in each_passes is_among moduli modulus_of powers_from field_product join_below
 generator_of_nine = refl
 
 -- limits
@@ -103,7 +103,7 @@ unfolding in_bounds
 many_groups = refl
 
 no_field_of_six : in_bounds (Df Field 6 3 1) ≡ false
-unfolding in_bounds shape_of shapes first_in
+unfolding in_bounds modulus_of moduli first_in
 no_field_of_six = refl
 
 integers_modulo_six : in_bounds (Df Cyclic 6 3 1) ≡ true

@@ -10,7 +10,7 @@ mod writing;
 
 pub use memory::{MemorySink, MemorySource};
 pub use reading::{ReadEnd, read_all};
-pub use standard::{StdSink, StdSource, TRIES};
+pub use standard::{StdSink, StdSource};
 pub use streams::{Failed, Sink, Source};
 pub use writing::write_whole;
 

@@ -1,7 +1,7 @@
-ghost use Rattle.std.specs.Prelude.{◌≡◌, ◌<◌, ◌+◌, ◌⊎◌, ◌↔◌, ◌++◌, length, min, take, drop, Contains, IsErr, IsTrue, IfOk, MatchResult, Some};
+ghost use Rattle.std.specs.Prelude.{◌≡◌, ◌<◌, ◌≤◌, ◌+◌, ◌⊎◌, ◌↔◌, ◌++◌, length, min, take, drop, Contains, IsErr, IsTrue, IfOk, MatchResult, OnErr, OnOk, Some};
 ghost use Rattle.std.specs.Io.{ReadsAtMost, WritesAtMost};
 ghost use Rattle.std.specs.Io.KnownBytes.{ReadConsumes, WriteAppends};
-ghost use Rattle.design_io.specs.Faults.{HasCause};
+ghost use Rattle.design_io.specs.Faults.{counted};
 ghost use Rattle.design_io.specs.Pieces.{TakesSome};
 ghost use Rattle.design_io.specs.Recorded.{new_input, new_output, after_read, after_failed_read, after_write, after_failed_write};
 
@@ -11,7 +11,8 @@ use std::alloc::Global;
 use std::marker::Model;
 
 /// Bytes in memory. Call number i, from 1, fails exactly where i is in `failing`, and then takes
-/// no byte. Another call gives as many bytes as are left, or as the buffer has room for.
+/// no byte and leaves the buffer. Another call gives as many bytes as are left, or as the buffer has
+/// room for, and leaves the buffer behind them.
 #[derive(Drop)]
 pub struct MemorySource {
     bytes: Vec<u8>,
@@ -38,7 +39,7 @@ impl Model for MemorySource {
 }
 
 impl MemorySource {
-    /// A source of these bytes.
+    /// A source of these bytes, of whose calls those numbered in `failing` fail.
     pub fn new(bytes: Vec<u8>, failing: Vec<u32>) -> Self
         ensures { result ≡ new_input bytes.items failing.items }
     {
@@ -63,6 +64,7 @@ fn fails(failing: &[u32], number: u64) -> bool
 fn copy_front(buf: &mut [u8], bytes: &[u8]) -> usize
     ensures count { result ≡ min (length bytes.now) (length buf.old) }
     ensures copied { take result buf.new ≡ take result bytes.now }
+    ensures behind { drop result buf.new ≡ drop result buf.old }
 {
     let count = bytes.len().min(buf.len());
     buf[..count].copy_from_slice(&bytes[..count]);
@@ -77,11 +79,15 @@ impl Source for MemorySource {
     fn read(&mut self, buf: &mut [u8]) -> Result<usize, Failed>
         ensures bound { ReadsAtMost result buf.new }
         ensures bytes { ReadConsumes (Some self.old.left) (Some self.new.left) result buf.new }
-        ensures cause { HasCause self.old.faults self.new.faults result }
+        ensures later { self.old.faults ≤ self.new.faults }
+        ensures kept { OnOk result (self.new.faults ≡ self.old.faults) }
+        ensures failed { OnErr result (self.new.faults ≡ counted self.old.faults) }
         ensures fails { IsErr result ↔ Contains self.old.failing self.old.next }
         ensures whole { IfOk result (λ count. count ≡ min (length self.old.left) (length buf.old)) }
         ensures after { MatchResult result (λ count. self.new ≡ after_read self.old count)
             (λ _. self.new ≡ after_failed_read self.old) }
+        ensures behind { IfOk result (λ count. drop count buf.new ≡ drop count buf.old) }
+        ensures unspoiled { OnErr result (buf.new ≡ buf.old) }
     {
         let failed = fails(&self.failing, self.next);
         self.next = self.next.saturating_add(1);
@@ -125,7 +131,8 @@ impl Model for MemorySink {
 }
 
 impl MemorySink {
-    /// An empty sink. All its room is taken here, so that a write asks for no memory.
+    /// An empty sink. All its room is taken here, so that a write asks for no memory; `Memory` comes
+    /// where there is not so much.
     pub fn new(alloc: Global, room: usize, failing: Vec<u32>) -> Result<Self, Memory>
         ensures { IfOk result (λ sink. sink ≡ new_output room failing.items) }
     {
@@ -156,7 +163,9 @@ impl Sink for MemorySink {
         ensures bound { WritesAtMost result piece.now }
         ensures some { TakesSome result piece.now }
         ensures bytes { WriteAppends (Some self.old.held) (Some self.new.held) result piece.now }
-        ensures cause { HasCause self.old.faults self.new.faults result }
+        ensures later { self.old.faults ≤ self.new.faults }
+        ensures kept { OnOk result (self.new.faults ≡ self.old.faults) }
+        ensures failed { OnErr result (self.new.faults ≡ counted self.old.faults) }
         ensures fails { IsErr result ↔ (Contains self.old.failing self.old.next ⊎
             self.old.room < length self.old.held + length piece.now) }
         ensures whole { IfOk result (λ count. count ≡ length piece.now) }

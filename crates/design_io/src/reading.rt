@@ -1,6 +1,6 @@
 ghost use Rattle.std.specs.Prelude.{◌≡◌, ◌<◌, ◌≤◌, length, IfOk, IfErr, IsErrOf};
 ghost use Rattle.design_io.specs.Faults.{Rose};
-ghost use Rattle.design_io.specs.Inputs.{IsTooLong, TakesAll, line_at};
+ghost use Rattle.design_io.specs.Inputs.{IsTooLong, ReadsText, TakesAll, faults_after, line_at};
 
 use crate::Source;
 use std::alloc::Global;
@@ -9,7 +9,7 @@ use thiserror::Error;
 /// Why not all was read.
 #[derive(Clone, Copy, Debug, PartialEq, Eq, Error)]
 pub enum ReadEnd {
-    /// The source failed.
+    /// A read failed, and was counted as one fault.
     #[error("read fault")]
     Failed,
     /// There are more bytes than the limit, and the first one past it stands on this line, from 1.
@@ -33,13 +33,18 @@ fn line_of(bytes: &[u8], place: u32) -> u32
     before.iter().filter(|byte| **byte == b'\n').count() as u32 + 1
 }
 
-/// All bytes up to the end of input, where these are at most `limit`. More are refused by
-/// `TooLong`; after an error some of the bytes were taken.
+/// All bytes up to the end of input, where these are at most `limit`, which is below 4,294,967,295.
+/// More are refused by `TooLong`. `Failed` comes at the first read that fails, which counts as one
+/// fault, and `Memory` where there is no room for what was read; after an error some of the bytes were
+/// taken.
+#[tactic(auto, using(crate::proofs::Texts::refused))]
 pub fn read_all<S: Source>(alloc: Global, source: &mut S, limit: u32) -> Result<Vec<u8>, ReadEnd>
     requires { limit < u32.MAX }
     ensures whole { IfOk result (λ all. TakesAll (S.left source.old) (S.left source.new) all.items) }
     ensures within { IfOk result (λ all. length all.items ≤ limit) }
     ensures too_long { IfErr result (IsTooLong (S.left source.old) limit) }
+    ensures text { ReadsText (S.left source.old) limit result }
+    ensures faults { S.faults source.new ≡ faults_after (S.faults source.old) result }
     ensures cause { IsErrOf result ReadEnd.Failed → Rose (S.faults source.old) (S.faults source.new) }
     ensures later { S.faults source.old ≤ S.faults source.new }
 {

@@ -1,16 +1,52 @@
 ghost use Rattle.std.specs.Prelude.{◌≡◌};
+ghost use Rattle.std.specs.Io.{ReadsAtMost, WritesAtMost};
+ghost use Rattle.std.specs.Io.KnownBytes.{ReadConsumes, WriteAppends};
+ghost use Rattle.design_io.specs.Pieces.{TakesSome};
 ghost use Rattle.design_io.specs.Recorded.{Counted};
 
 use crate::{Failed, Sink, Source};
 use std::io::{ErrorKind, Read, Write};
 use std::marker::Model;
 
-/// How often one call of an adapter asks its reader or writer, where that is interrupted.
-pub const TRIES: u32 = 1_000;
+// How often one call of an adapter asks its reader or writer, where that is interrupted.
+const TRIES: u32 = 1_000;
 
-/// A reader of std as a source, which tells what the reader tells. Each error counts as a fault.
-/// An interrupted call is made again; any other error ends the call, and so does the
-/// thousandth interruption. Where the count stands at its last value each call fails at once.
+// Reads, again where that was interrupted.
+fn read_again<R: Read>(reader: &mut R, buf: &mut [u8]) -> Result<usize, Failed>
+    ensures bound { ReadsAtMost result buf.new }
+    ensures bytes { ReadConsumes (R.remaining reader.old) (R.remaining reader.new) result buf.new }
+{
+    for _ in 0..TRIES {
+        match reader.read(buf) {
+            Ok(count) => return Ok(count),
+            Err(error) if error.kind() == ErrorKind::Interrupted => {}
+            Err(_) => return Err(Failed),
+        }
+    }
+    Err(Failed)
+}
+
+// Writes, again where that was interrupted. A piece with bytes of which none is taken is a failure.
+fn write_again<W: Write>(writer: &mut W, piece: &[u8]) -> Result<usize, Failed>
+    ensures bound { WritesAtMost result piece.now }
+    ensures some { TakesSome result piece.now }
+    ensures bytes { WriteAppends (W.contents writer.old) (W.contents writer.new) result piece.now }
+{
+    for _ in 0..TRIES {
+        match writer.write(piece) {
+            Ok(0) if !piece.is_empty() => return Err(Failed),
+            Ok(count) => return Ok(count),
+            Err(error) if error.kind() == ErrorKind::Interrupted => {}
+            Err(_) => return Err(Failed),
+        }
+    }
+    Err(Failed)
+}
+
+/// A reader of std as a source, which tells what the reader tells. An interrupted call of the reader
+/// is made again, up to a thousand calls, and is no fault by itself. Any other error, and the
+/// thousandth interruption, counts as one fault. Where the count stands at its last value, the last of
+/// the type u64, each call fails at once.
 #[derive(Drop)]
 pub struct StdSource<R: Read> {
     inner: R,
@@ -40,26 +76,20 @@ impl<R: Read> Source for StdSource<R> {
     ghost faults = { λ s. s.faults };
 
     fn read(&mut self, buf: &mut [u8]) -> Result<usize, Failed> {
-        for _ in 0..TRIES {
-            if self.faults == u64::MAX {
-                return Err(Failed);
-            }
-            match self.inner.read(buf) {
-                Ok(count) => return Ok(count),
-                Err(error) => {
-                    self.faults += 1;
-                    if error.kind() != ErrorKind::Interrupted {
-                        return Err(Failed);
-                    }
-                }
-            }
+        if self.faults == u64::MAX {
+            return Err(Failed);
         }
-        Err(Failed)
+        let answer = read_again(&mut self.inner, buf);
+        if answer.is_err() {
+            self.faults += 1;
+        }
+        answer
     }
 }
 
 /// A writer of std as a sink, which tells what the writer tells. Faults and interrupted calls are
-/// as those of `StdSource`. Where the writer takes none of a piece with bytes, that is a fault too.
+/// as those of `StdSource`. Where the writer takes none of a piece with bytes, that counts as a fault
+/// too, after that one call.
 #[derive(Drop)]
 pub struct StdSink<W: Write> {
     inner: W,
@@ -89,24 +119,13 @@ impl<W: Write> Sink for StdSink<W> {
     ghost faults = { λ s. s.faults };
 
     fn write(&mut self, piece: &[u8]) -> Result<usize, Failed> {
-        for _ in 0..TRIES {
-            if self.faults == u64::MAX {
-                return Err(Failed);
-            }
-            match self.inner.write(piece) {
-                Ok(count) if count > 0 || piece.is_empty() => return Ok(count),
-                Ok(_) => {
-                    self.faults += 1;
-                    return Err(Failed);
-                }
-                Err(error) => {
-                    self.faults += 1;
-                    if error.kind() != ErrorKind::Interrupted {
-                        return Err(Failed);
-                    }
-                }
-            }
+        if self.faults == u64::MAX {
+            return Err(Failed);
         }
-        Err(Failed)
+        let answer = write_again(&mut self.inner, piece);
+        if answer.is_err() {
+            self.faults += 1;
+        }
+        answer
     }
 }

@@ -21,6 +21,7 @@ fn reads_within_the_limit(rt: HostRuntime) -> Result<(), Fail> {
     for (bytes, failing, limit, want) in [
         ("", 0, 0, Ok("")),
         ("ab\ncd", 0, 5, Ok("ab\ncd")),
+        ("ab\ncd", 0, 4, Err(ReadEnd::TooLong { line: 2 })),
         ("ab\ncd", 0, 3, Err(ReadEnd::TooLong { line: 2 })),
         ("ab\ncd", 0, 2, Err(ReadEnd::TooLong { line: 1 })),
         ("ab\ncd", 1, 5, Err(ReadEnd::Failed)),
@@ -57,30 +58,31 @@ fn failed_writes_keep_no_byte(rt: HostRuntime) -> Result<(), Fail> {
     Ok(())
 }
 
-// It interrupts so many calls. Then it is at the end of input, and takes whole pieces.
+// It fails so many calls by an error of this kind. Then it is at the end of input, and takes whole pieces.
 #[derive(Drop)]
-struct Interrupting {
+struct Failing {
     calls: u32,
+    kind: ErrorKind,
 }
 
-impl Interrupting {
+impl Failing {
     fn pass(&mut self) -> io::Result<()> {
         if self.calls == 0 {
             return Ok(());
         }
         self.calls -= 1;
-        Err(ErrorKind::Interrupted.into())
+        Err(self.kind.into())
     }
 }
 
-impl Read for Interrupting {
+impl Read for Failing {
     fn read(&mut self, _buf: &mut [u8]) -> io::Result<usize> {
         self.pass()?;
         Ok(0)
     }
 }
 
-impl Write for Interrupting {
+impl Write for Failing {
     fn write(&mut self, buf: &[u8]) -> io::Result<usize> {
         self.pass()?;
         Ok(buf.len())
@@ -92,14 +94,46 @@ impl Write for Interrupting {
 }
 
 #[test]
-fn interrupted_calls_are_made_again(rt: HostRuntime) {
-    for (calls, want) in [(0, Ok(())), (TRIES - 1, Ok(())), (TRIES, Err(Failed))] {
-        let mut source = StdSource::new(Interrupting { calls });
+fn only_interrupted_calls_are_made_again(rt: HostRuntime) {
+    for (calls, kind, want) in [
+        (0, ErrorKind::Interrupted, Ok(())),
+        (999, ErrorKind::Interrupted, Ok(())),
+        (1_000, ErrorKind::Interrupted, Err(Failed)),
+        (1, ErrorKind::WouldBlock, Err(Failed)),
+    ] {
+        let mut source = StdSource::new(Failing { calls, kind });
         let end = source.read(&mut [0; 2]);
         assert_eq!(rt; end, want.map(|()| 0), "{calls} reads");
-        let mut sink = StdSink::new(Interrupting { calls });
+        let mut sink = StdSink::new(Failing { calls, kind });
         assert_eq!(rt; write_whole(&mut sink, b"ab"), want, "{calls} writes");
     }
+}
+
+// It takes no byte, and counts the calls.
+#[derive(Drop)]
+struct Idle {
+    calls: u32,
+}
+
+impl Write for Idle {
+    fn write(&mut self, _buf: &[u8]) -> io::Result<usize> {
+        self.calls = self.calls.saturating_add(1);
+        Ok(0)
+    }
+
+    fn flush(&mut self) -> io::Result<()> {
+        Ok(())
+    }
+}
+
+#[test]
+fn a_writer_that_takes_nothing_is_called_once(rt: HostRuntime) {
+    let mut writer = Idle { calls: 0 };
+    assert_eq!(rt;
+        write_whole(&mut StdSink::new(&mut writer), b"ab"),
+        Err(Failed)
+    );
+    assert_eq!(rt; writer.calls, 1);
 }
 
 #[test]

@@ -2,6 +2,7 @@
 use Rattle.std.proofs.Common.{◌≡◌, ℕ, ◌+◌, ◌-◌, ◌*◌, ◌<◌, ◌≤◌, ◌^◌, true, ◌||◌, ◌==◌, inl, inr, List, [], ◌∷◌, length, take, get_or, length-take, arith, rules, refl}
 use Rattle.std.specs.Prelude.{Some, not, slice_index}
 use Rattle.design_base.specs.declared.limits.TheConstants.{DIGITS_MAX}
+use Rattle.design_base.specs.Limits.{HasFewDigits}
 use Rattle.design_lines.specs.Words.{is_short, number_of}
 use Rattle.std.specs.List.{list_all}
 use Rattle.std.specs.Char.{is_ascii_digit, digit_value}
@@ -63,7 +64,7 @@ well_begun n h = elim (cases_lt 0 n) [
   | inr none ↦ (let e : decimal n ≡ (48 + n) ∷ [] = decimal_digit n (omega arith) in rw e refl)
 ]
 
-decimal_is_short : (n : ℕ) → n < 10 ^ DIGITS_MAX → is_short (decimal n) ≡ true
+decimal_is_short : (n : ℕ) → HasFewDigits n → is_short (decimal n) ≡ true
 decimal_is_short n h =
     let longest : length (decimal n) ≤ DIGITS_MAX = length-decimal-le DIGITS_MAX n (omega arith) h (omega arith) in
     let shortest : 1 ≤ length (decimal n) = decimal_nonempty n (omega arith) in
@@ -71,7 +72,7 @@ decimal_is_short n h =
     simp (le-leb 1 (length (decimal n)) shortest, le-leb (length (decimal n)) DIGITS_MAX longest, begun)
 
 -- a number is read back from its digits
-pub number_of_decimal : (n : ℕ) → n < 10 ^ DIGITS_MAX → number_of (decimal n) ≡ Some n
+pub number_of_decimal : (n : ℕ) → HasFewDigits n → number_of (decimal n) ≡ Some n
 unfolding number_of
 number_of_decimal n h =
     let digits : IsDigits (decimal n) = digits_decimal numerals n (omega arith) in

@@ -5,3 +5,4 @@ pub mod ReadBack
 pub mod RowNumbers
 pub mod Runs
 pub mod InBounds
+mod Samples

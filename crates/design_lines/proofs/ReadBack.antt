@@ -1,7 +1,7 @@
 -- A question is read back from its words.
-use Rattle.std.proofs.Common.{◌≡◌, ℕ, ◌+◌, ◌<◌, ◌^◌, List, ◌++◌, ap, arith}
+use Rattle.std.proofs.Common.{◌≡◌, ℕ, ◌+◌, List, ◌++◌, ap, arith}
 use Rattle.std.specs.Prelude.{Result, Ok}
-use Rattle.design_base.specs.declared.limits.TheConstants.{DIGITS_MAX}
+use Rattle.design_base.specs.Limits.{HasFewDigits}
 use Rattle.design_base.specs.declared.query.Group.TheVariants.{Cyclic, Field}
 use Rattle.design_base.specs.declared.query.Query.{Query}
 use Rattle.design_base.specs.declared.query.Query.TheVariants.{Td, Df, Bibd, Gdd, Pbd}
@@ -11,16 +11,13 @@ use Rattle.design_lines.specs.Grammar.{questions, groups}
 use Rattle.design_lines.specs.Printed.{question_words}
 use Rattle.design_lines.proofs.Digits.{number_of_decimal}
 
--- the number is one that a line can spell
-abbrev pub IsSpellable : ℕ → Type 0
-IsSpellable n = n < 10 ^ DIGITS_MAX
-
+-- the numbers of the question are ones that a line can spell
 abbrev pub AreSpellable : Query → Type 0
-AreSpellable (Td k n) = IsSpellable k × IsSpellable n
-AreSpellable (Df group v k l) = IsSpellable v × IsSpellable k × IsSpellable l
-AreSpellable (Bibd v k l) = IsSpellable v × IsSpellable k × IsSpellable l
-AreSpellable (Gdd k g u) = IsSpellable k × IsSpellable g × IsSpellable u
-AreSpellable (Pbd v s) = IsSpellable v × IsSpellable s
+AreSpellable (Td k n) = HasFewDigits k × HasFewDigits n
+AreSpellable (Df group v k l) = HasFewDigits v × HasFewDigits k × HasFewDigits l
+AreSpellable (Bibd v k l) = HasFewDigits v × HasFewDigits k × HasFewDigits l
+AreSpellable (Gdd k g u) = HasFewDigits k × HasFewDigits g × HasFewDigits u
+AreSpellable (Pbd v s) = HasFewDigits v × HasFewDigits s
 
 -- how many words the question has
 abbrev pub word_count : Query → ℕ

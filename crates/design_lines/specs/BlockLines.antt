@@ -2,7 +2,7 @@
 use Rattle.std.specs.Prelude.{◌≡◌, ℕ, Bool, true, false, ◌&&◌, if◌then◌else◌, List, [], ◌∷◌, ◌++◌, length, Option, Some, None, option_and_then, option_map, IsSomeAnd}
 use Rattle.std.specs.Str.Lines.{strip_carriage_return}
 use Rattle.counting.specs.Search.{◌<=◌}
-use Rattle.design_lines.specs.declared.block_lines.TheConstants.{BLOCK_DIGITS_MAX}
+use Rattle.design_base.specs.declared.limits.TheConstants.{BLOCK_DIGITS_MAX}
 use Rattle.design_lines.specs.Words.{value_of, words_of}
 
 -- a number of one to five digits, leading zeros allowed, that is at most 65,535

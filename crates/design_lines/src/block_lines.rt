@@ -1,5 +1,5 @@
 //! Block lines: the numbers of a block, as they are handed in.
-ghost use Rattle.std.specs.Prelude.{◌≡◌, ◌+◌, ◌<◌, ◌≤◌, IfOk, None, OnErr, OnOk, Some, length};
+ghost use Rattle.std.specs.Prelude.{◌≡◌, ◌+◌, ◌<◌, ◌≤◌, IfOk, IfSome, None, OnErr, OnOk, Some, length};
 ghost use Rattle.std.specs.Str.Lines.{strip_carriage_return};
 ghost use Rattle.incidence.specs.Packed.{size_of};
 ghost use Rattle.design_lines.specs.declared.block_lines.BlockLineEnd.TheVariants.{Memory};
@@ -7,12 +7,9 @@ ghost use Rattle.design_lines.specs.BlockLines.{AddsLine, block_line, block_numb
 
 use crate::numbers::value_of;
 use crate::words::Words;
-use design_base::{Memory, PACKED_MAX};
+use design_base::{BLOCK_DIGITS_MAX, Memory, PACKED_MAX};
 use incidence::Rows;
 use std::alloc::{AllocFailed, Global};
-
-/// The most digits of a number in a block line.
-pub const BLOCK_DIGITS_MAX: usize = 5;
 
 /// Why a line was not added to the rows.
 #[derive(Clone, Copy, Debug, PartialEq, Eq)]
@@ -78,10 +75,11 @@ fn numbers_of_line(alloc: Global, line: &[u8]) -> Result<Vec<u16>, BlockLineEnd>
 
 /// Appends the numbers of a block line as one row, in their order, and tells whether there were any. A block line has
 /// numbers of 1 to 5 digits, each at most 65,535, with runs of spaces and tabs between them and at either end; leading
-/// zeros are allowed, and so is one carriage return as the last byte. A line without numbers adds nothing. `Bad` comes
-/// exactly where the line is no block line. After a refusal the rows are as before.
+/// zeros are allowed, and so is one carriage return as the last byte. A line without numbers adds nothing. There is room for
+/// the numbers of a block line in the rows. `Bad` comes exactly where the line is no block line, and `Memory` only for want of
+/// memory. After a refusal the rows are as before.
 pub fn push_block_line(alloc: Global, rows: &mut Rows, line: &[u8]) -> Result<bool, BlockLineEnd>
-    requires { size_of rows.old + length line.now + 1 < PACKED_MAX }
+    requires { IfSome (block_line line.now) (λ row. size_of rows.old + length row + 1 < PACKED_MAX) }
     ensures ok { IfOk result (AddsLine rows.old rows.new line.now) }
     ensures bad { result ≡ Err BlockLineEnd.Bad → block_line line.now ≡ None }
     ensures err { OnErr result (rows.new ≡ rows.old) }

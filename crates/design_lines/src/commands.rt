@@ -11,13 +11,6 @@ use design_base::{
     COVER_MAX, GDD_K_MAX, POINTS_MAX, TD_K_MAX, TD_N_MAX, TableAsk, WORKERS_MAX, WORKLOAD_MAX,
 };
 
-// Whether a number lies in a range.
-fn is_within(low: u16, high: u16, number: u64) -> bool
-    ensures { result ≡ within low high number }
-{
-    u64::from(low) <= number && number <= u64::from(high)
-}
-
 // Whether both ends of a range lie within the limits, the first not above the second.
 fn is_range_within(low: u16, high: u16, ends: (u64, u64)) -> bool
     ensures { result ≡ is_range low high ends.0 ends.1 }
@@ -59,7 +52,8 @@ fn bibd(k: (u64, u64), v: (u64, u64), l: u64, workers: u64) -> Option<Command>
 {
     if !is_range_within(2, POINTS_MAX, k)
         || !is_range_within(2, POINTS_MAX, v)
-        || !is_within(1, COVER_MAX, l)
+        || l < 1
+        || l > u64::from(COVER_MAX)
         || !is_crew(workers)
     {
         return None;
@@ -81,7 +75,8 @@ fn bibd(k: (u64, u64), v: (u64, u64), l: u64, workers: u64) -> Option<Command>
 fn gdd(k: u64, g: (u64, u64), u: (u64, u64), workers: u64) -> Option<Command>
     ensures { result ≡ table (TableAsk.Gdd k g.0 g.1 u.0 u.1) workers }
 {
-    if !is_within(2, GDD_K_MAX, k)
+    if k < 2
+        || k > u64::from(GDD_K_MAX)
         || !is_range_within(1, POINTS_MAX / 2, g)
         || !is_range_within(2, POINTS_MAX, u)
         || !is_crew(workers)

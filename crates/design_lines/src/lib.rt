@@ -12,12 +12,11 @@ mod texts;
 mod words;
 
 pub use block_lines::{BlockLineEnd, push_block_line};
-pub use command::{Asked, Command, Reason, Shape, Verb};
+pub use command::{Command, Reason, Shape, Verb};
 pub use commands::{read_line, read_words};
-pub use line::{LINE_ROOM, Line, TEXT_ROOM, Text};
-pub use names::{criterion_name, parameter_count, rule_name};
+pub use line::{LINE_ROOM, Text, TextLine};
+pub use names::criterion_name;
 pub use texts::{counted_line, question_text, row_line, step_text};
-pub use words::Words;
 
 #[cfg(test)]
 mod tests;

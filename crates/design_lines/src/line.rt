@@ -30,7 +30,7 @@ impl<const ROOM: usize> Model for InPlace<ROOM> {
 }
 
 /// A line that is put together word by word.
-pub type Line = InPlace<LINE_ROOM>;
+pub type TextLine = InPlace<LINE_ROOM>;
 
 /// A question or a step in words.
 pub type Text = InPlace<TEXT_ROOM>;
@@ -72,7 +72,7 @@ impl<const ROOM: usize> InPlace<ROOM> {
         self.len = end;
     }
 
-    /// Appends a word, behind a space where it is not the first.
+    /// Appends a word, behind a space where it is not the first. There is room for both.
     pub fn push_word(&mut self, word: &[u8])
         requires { length self.old + length word.now + 1 ≤ ROOM }
         ensures word { self.new ≡ with_word self.old word.now }
@@ -94,7 +94,7 @@ impl<const ROOM: usize> InPlace<ROOM> {
         self.push_word(digits.format(number).as_bytes());
     }
 
-    /// Appends a number in decimal digits, as a word.
+    /// Appends a number in decimal digits, as a word. There is room for 21 bytes.
     #[tactic(auto, using(crate::proofs::Digits::length_of_long))]
     pub fn push_number(&mut self, number: u64)
         requires { length self.old + 21 ≤ ROOM }
@@ -104,7 +104,7 @@ impl<const ROOM: usize> InPlace<ROOM> {
         self.push_decimal(number);
     }
 
-    /// Appends numbers, each as a word.
+    /// Appends numbers, each as a word. There is room for 6 bytes each.
     #[tactic(auto, using(crate::proofs::Digits::length_of_short, crate::proofs::Joined::numbers_more))]
     pub fn push_numbers(&mut self, numbers: &[u16])
         requires { length self.old + 6 * length numbers.now ≤ ROOM }
@@ -116,7 +116,7 @@ impl<const ROOM: usize> InPlace<ROOM> {
         }
     }
 
-    /// Ends the line.
+    /// Ends the line by a line feed, for which there is room.
     pub fn end(&mut self)
         requires { length self.old + 1 ≤ ROOM }
         ensures { self.new ≡ self.old ++ 10 ∷ [] }

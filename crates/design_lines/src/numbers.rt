@@ -1,5 +1,6 @@
 //! The numbers that words spell.
 ghost use Rattle.std.specs.Prelude.{◌≡◌, ◌<◌, ◌≤◌, ◌^◌, length, IfSome};
+ghost use Rattle.design_base.specs.Limits.{HasFewDigits};
 ghost use Rattle.std.specs.Char.{is_ascii_digit};
 ghost use Rattle.design_lines.specs.Words.{value_of as written, is_short as is_spelled_short, number_of as spelled};
 
@@ -32,7 +33,7 @@ fn is_short(word: &[u8]) -> bool
 #[tactic(auto, unfolding(crate::specs::Words::number_of))]
 pub fn number_of(word: &[u8]) -> Option<u64>
     ensures value { result ≡ spelled word.now }
-    ensures small { IfSome result (λ n. n < 10 ^ DIGITS_MAX) }
+    ensures small { IfSome result HasFewDigits }
 {
     if is_short(word) { value_of(word) } else { None }
 }

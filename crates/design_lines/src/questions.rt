@@ -1,12 +1,13 @@
 //! Reading a question.
 ghost use Rattle.std.specs.Prelude.{◌≡◌, ◌^◌, ◌<◌, if◌then◌else◌, Some, None, option_and_then};
 ghost use Rattle.counting.specs.Search.{◌<=◌};
+ghost use Rattle.design_base.specs.Limits.{HasFewDigits};
 ghost use Rattle.design_lines.specs.Reading.{Reads, ◌then◌, gives, one_of};
 ghost use Rattle.design_lines.specs.Grammar.{asked, groups, narrowed, normal_question, question, squares};
 
 use crate::command::{Asked, Reason, Shape};
 use crate::words::Words;
-use design_base::{DIGITS_MAX, Group, Query, in_bounds};
+use design_base::{Group, Query, in_bounds};
 
 // The number, where it is not above 65,535.
 fn narrow(number: u64) -> Option<u16>
@@ -86,7 +87,7 @@ fn within_bounds(shape: Shape, query: Option<Query>) -> Option<Asked>
 // m squares of order n, of which there is at least one.
 #[tactic(auto, using(crate::proofs::Bounds::asked_narrowed))]
 fn mols(n: u64, m: u64) -> Option<Asked>
-    requires { m < 10 ^ DIGITS_MAX }
+    requires { HasFewDigits m }
     ensures { result ≡ squares n m }
 {
     if m < 1 {

@@ -1,5 +1,5 @@
 use crate::{
-    Asked, BlockLineEnd, Command, Line, Reason, Shape, Verb, counted_line, push_block_line,
+    BlockLineEnd, Command, Reason, Shape, TextLine, Verb, counted_line, push_block_line,
     question_text, read_line, read_words, step_text,
 };
 use design_base::{Group, Query, Rule, Step, TableAsk};
@@ -135,7 +135,7 @@ fn questions_and_steps_are_printed(rt: HostRuntime) {
         step_text(&Step::new(Rule::PbdDelete, 0, 0, 0, 0)).bytes(),
         b"delete".as_slice()
     );
-    let mut line = Line::new();
+    let mut line = TextLine::new();
     line.push_word(b"blocks");
     line.push_number(12);
     line.end();
@@ -147,6 +147,7 @@ fn questions_and_steps_are_printed(rt: HostRuntime) {
 }
 
 // What is answered to a line of at most 64 bytes, and the rows that it made.
+#[tactic(auto, using(crate::proofs::RowNumbers::room_for_numbers))]
 fn added(alloc: Global, line: &[u8]) -> (Result<bool, BlockLineEnd>, Rows) {
     let mut rows = Rows::new(alloc);
     let answer = push_block_line(alloc, &mut rows, &line[..line.len().min(64)]);

@@ -3,8 +3,7 @@ ghost use Rattle.std.specs.Prelude.{◌≡◌, ◌*◌, ◌<◌, ◌≤◌, leng
 ghost use Rattle.std.specs.Fmt.{decimal};
 ghost use Rattle.design_lines.specs.Printed.{counted_line as counted_text, group_word, line_of, question_words, spaced, step_words};
 
-use crate::line::{LINE_ROOM, Line, Text};
-use crate::names::{parameter_count, rule_name};
+use crate::line::{LINE_ROOM, Text, TextLine};
 use design_base::{Group, Query, Step};
 
 // The word of a group.
@@ -55,33 +54,33 @@ pub fn step_text(step: &Step) -> Text
     ensures { result ≡ spaced (step_words step.now) }
 {
     let mut text = Text::new();
-    text.push_word(rule_name(step.rule).as_bytes());
+    text.push_word(step.rule.name().as_bytes());
     let parameters = [step.a, step.b, step.c, step.d];
-    text.push_numbers(&parameters[..parameter_count(step.rule)]);
+    text.push_numbers(&parameters[..step.rule.parameters()]);
     text
 }
 
 /// A word and a number, as a line. The word has 1 to 100 bytes.
 #[tactic(auto, using(crate::proofs::Joined::line_of_two), unfolding(crate::specs::Printed::counted_line))]
-pub fn counted_line(word: &str, number: u64) -> Line
+pub fn counted_line(word: &str, number: u64) -> TextLine
     requires started { 0 < length word.now }
     requires short { length word.now ≤ 100 }
     ensures { result ≡ counted_text word.now number }
 {
-    let mut line = Line::new();
+    let mut line = TextLine::new();
     line.push_word(word.as_bytes());
     line.push_number(number);
     line.end();
     line
 }
 
-/// A row of numbers as a line, with one space between each two.
+/// A row of numbers as a line, with one space between each two. It has at most 341 numbers.
 #[tactic(auto, using(crate::proofs::Joined::row_joined))]
-pub fn row_line(row: &[u16]) -> Line
+pub fn row_line(row: &[u16]) -> TextLine
     requires { 6 * length row.now < LINE_ROOM }
     ensures { result ≡ line_of (map decimal row.now) }
 {
-    let mut line = Line::new();
+    let mut line = TextLine::new();
     line.push_numbers(row);
     line.end();
     line

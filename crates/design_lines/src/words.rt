@@ -1,12 +1,12 @@
 //! Reading a line word by word, from the left.
 ghost use Rattle.std.specs.Prelude.{◌≡◌, ◌↔◌, ◌+◌, ◌^◌, ◌<◌, [], ◌∷◌, IfNone, IfOk, IfSome, IsTrue, MatchOption, drop, false, length, take_while};
+ghost use Rattle.design_base.specs.Limits.{HasFewDigits};
 ghost use Rattle.design_lines.specs.Reading.{Reads, at_end, is_next, no_fixed_word, number, pair, triple};
 ghost use Rattle.design_lines.specs.Source.{words_in};
 ghost use Rattle.design_lines.specs.Words.{texts, words_of, is_blank as is_blank_byte, is_in_word};
 
 use crate::command::Reason;
 use crate::numbers::number_of;
-use design_base::DIGITS_MAX;
 use std::marker::Model;
 
 // The number of a line's first word.
@@ -30,6 +30,7 @@ pub struct Words<'a> {
 
 impl<'a> Model for Words<'a> {
     ghost use Rattle.std.specs.Prelude.{ℕ, ◌+◌, ◌<◌, ◌^◌, List, length};
+    ghost use Rattle.design_base.specs.Limits.{HasFewDigits};
     ghost use Rattle.design_lines.specs.Reading.{Rest};
 
     ghost Value = { Rest };
@@ -174,7 +175,7 @@ impl<'a> Words<'a> {
     #[tactic(auto, unfolding(crate::specs::Reading::number))]
     pub fn number(&mut self) -> Result<u64, Reason>
         ensures reads { Reads number self.old self.new result }
-        ensures small { IfOk result (λ n. n < 10 ^ DIGITS_MAX) }
+        ensures small { IfOk result HasFewDigits }
     {
         let at = self.at;
         let word = self.next_word().ok_or(Reason::Missing { at })?;
@@ -185,7 +186,7 @@ impl<'a> Words<'a> {
     #[tactic(auto, unfolding(crate::specs::Reading::pair))]
     pub fn pair(&mut self) -> Result<(u64, u64), Reason>
         ensures reads { Reads pair self.old self.new result }
-        ensures small { IfOk result (λ x. (x.0 < 10 ^ DIGITS_MAX) × (x.1 < 10 ^ DIGITS_MAX)) }
+        ensures small { IfOk result (λ x. HasFewDigits x.0 × HasFewDigits x.1) }
     {
         let first = self.number()?;
         let second = self.number()?;

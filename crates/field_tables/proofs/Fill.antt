@@ -4,11 +4,11 @@ use Rattle.std.proofs.Math.Path.{ap₂}
 use Rattle.std.proofs.Math.Nat.{add-mod, div-le_self, div-lt_self, mul-div-le, mul-le-mul_left, mul-le-mul_right}
 use Rattle.std.proofs.lemmas.Bool.{cases_lt}
 use Rattle.design_base.specs.Rings.{IsCommutativeRing}
-use Rattle.design_base.specs.Fields.{Shape, field_sum, field_product}
+use Rattle.design_base.specs.Fields.{Modulus, field_sum, field_product}
 use Rattle.design_base.specs.declared.limits.TheConstants.{POINTS_MAX}
 use Rattle.field_tables.specs.declared.polynomial.Polynomial.{Polynomial}
-use Rattle.field_tables.specs.Tables.{IsListed, IsModular, IsTable, IsValues, by_rows, excess, shape_in, shifted}
-use Rattle.field_tables.proofs.Listed.{IsShapeOf, shape_known}
+use Rattle.field_tables.specs.Tables.{IsListed, IsModular, IsTable, IsValues, by_rows, excess, modulus_in, shifted}
+use Rattle.field_tables.proofs.Listed.{IsModulusOf, modulus_known}
 use Rattle.field_tables.proofs.Rules.{sum_rule, shift_rule_low, shift_rule_high, product_rule_zero, product_rule_next, product_rule_shift, prime_rule, high_rule}
 use Rattle.field_tables.proofs.Values.{earlier, row_at, table_at}
 
@@ -20,12 +20,12 @@ module _ (f : Polynomial) (listed : IsListed f) where
   abbrev p : ℕ
   p = f.prime
 
-  abbrev s : Shape
-  s = shape_in f
+  abbrev s : Modulus
+  s = modulus_in f
 
   -- what is known of it
-  pub known : IsShapeOf f.order (shape_in f)
-  known = shape_known f.order (shape_in f) listed
+  pub known : IsModulusOf f.order (modulus_in f)
+  known = modulus_known f.order (modulus_in f) listed
 
   pub positive : 0 < f.prime
   positive = let h : 2 ≤ p = known.two in omega arith

@@ -8,7 +8,7 @@ use Rattle.std.proofs.lemmas.List.{length-map}
 use Rattle.counting.specs.Search.{◌<=◌, each_passes}
 use Rattle.design_base.specs.Digits.{plus, times}
 use Rattle.design_base.specs.Rings.{IsCommutativeRing, IsField, HasInverses}
-use Rattle.design_base.specs.Fields.{Shape, shapes, order, negated, shape_of, sum_in, product_in, field_sum, field_product, has_field, FieldAt}
+use Rattle.design_base.specs.Fields.{Modulus, moduli, order, negated, modulus_of, sum_in, product_in, field_sum, field_product, has_field, FieldAt}
 use Rattle.design_base.specs.declared.limits.TheConstants.{POINTS_MAX}
 use Rattle.field_tables.specs.Tables.{field_order}
 use Rattle.field_tables.proofs.Digits.{ring}
@@ -25,12 +25,12 @@ powers_invert mul q zero = true
 powers_invert mul q (suc n) = (n == 0 || mul n (power mul n 8 (q - 2)) == 1) && powers_invert mul q n
 
 -- the prime is from 2 on, the degree from 1 on, the order small enough, and each element but 0 has an inverse
-abbrev is_sound : Shape → Bool
+abbrev is_sound : Modulus → Bool
 is_sound s = (2 <= s.prime && 1 <= length s.lower) && (order s <= POINTS_MAX && powers_invert (product_in (Some s)) (order s) (order s))
 
-shapes_sound : each_passes is_sound shapes ≡ true
-unfolding shapes each_passes
-shapes_sound = refl
+moduli_sound : each_passes is_sound moduli ≡ true
+unfolding moduli each_passes
+moduli_sound = refl
 
 -- the parts of a test
 and_left : (b c : Bool) → (b && c) ≡ true → b ≡ true
@@ -71,7 +71,7 @@ module _ (q : ℕ) (add mul : ℕ → ℕ → ℕ) (r : IsCommutativeRing q add 
       not_zero x pos = elim (eqb_tells x 0) [ inl g ↦ absurd (let f : x ≡ 0 = g.1 in omega arith) | inr g ↦ g.0 ]
 
 -- what is known of a listed polynomial
-pub record IsShapeOf (q : ℕ) (s : Shape) : Type 0 where
+pub record IsModulusOf (q : ℕ) (s : Modulus) : Type 0 where
   pub whole : order s ≡ q
   pub two : 2 ≤ s.prime
   pub degree : 1 ≤ length s.lower
@@ -81,8 +81,8 @@ pub record IsShapeOf (q : ℕ) (s : Shape) : Type 0 where
   pub field : IsField q (field_sum q) (field_product q)
 
 -- the ring of a polynomial
-shape_ring : (s : Shape) → 2 ≤ s.prime → 1 ≤ length s.lower → IsCommutativeRing (order s) (sum_in (Some s)) (product_in (Some s))
-shape_ring s two one = by s.lower refl one
+modulus_ring : (s : Modulus) → 2 ≤ s.prime → 1 ≤ length s.lower → IsCommutativeRing (order s) (sum_in (Some s)) (product_in (Some s))
+modulus_ring s two one = by s.lower refl one
   where
     by : (lower : List ℕ) → s.lower ≡ lower → 1 ≤ length s.lower → IsCommutativeRing (order s) (sum_in (Some s)) (product_in (Some s))
     by [] e one = absurd (omega (arith, ap length e))
@@ -92,10 +92,10 @@ shape_ring s two one = by s.lower refl one
         subst (λ d. IsCommutativeRing (s.prime ^ d) (plus s.prime d) (times s.prime d (negated s))) (sym degree) (ring s.prime (length cs) (negated s) two size)
 
 -- from the tests
-pub shape_known : (q : ℕ) (s : Shape) → shape_of q ≡ Some s → IsShapeOf q s
-unfolding shape_of field_sum field_product
-shape_known q s found =
-    let tests = first_in-each (λ s. order s == q) is_sound shapes s shapes_sound found in
+pub modulus_known : (q : ℕ) (s : Modulus) → modulus_of q ≡ Some s → IsModulusOf q s
+unfolding modulus_of field_sum field_product
+modulus_known q s found =
+    let tests = first_in-each (λ s. order s == q) is_sound moduli s moduli_sound found in
     let inverses = powers_invert (product_in (Some s)) (order s) (order s) in
     let first : (2 <= s.prime && 1 <= length s.lower) ≡ true = and_left (2 <= s.prime && 1 <= length s.lower) (order s <= POINTS_MAX && inverses) tests.1 in
     let last : (order s <= POINTS_MAX && inverses) ≡ true = and_right (2 <= s.prime && 1 <= length s.lower) (order s <= POINTS_MAX && inverses) tests.1 in
@@ -105,7 +105,7 @@ shape_known q s found =
     let small : order s ≤ POINTS_MAX = leb-true (order s) POINTS_MAX (and_left (order s <= POINTS_MAX) inverses last) in
     let sums : field_sum q ≡ sum_in (Some s) = ap sum_in found in
     let products : field_product q ≡ product_in (Some s) = ap product_in found in
-    let r = shape_ring s two degree in
+    let r = modulus_ring s two degree in
     let field : IsField (order s) (sum_in (Some s)) (product_in (Some s)) = record {
       ring = r;
       inverses = from_powers (order s) (sum_in (Some s)) (product_in (Some s)) r (order s) (and_right (order s <= POINTS_MAX) inverses last);
@@ -122,19 +122,19 @@ shape_known q s found =
 
 -- the sums and products of a listed order make a field
 pub listed_field : (q : ℕ) → has_field q ≡ true → IsField q (field_sum q) (field_product q)
-listed_field q h = by (shape_of q) refl h
+listed_field q h = by (modulus_of q) refl h
   where
-    by : (o : Option Shape) → shape_of q ≡ o → is_some o ≡ true → IsField q (field_sum q) (field_product q)
+    by : (o : Option Modulus) → modulus_of q ≡ o → is_some o ≡ true → IsField q (field_sum q) (field_product q)
     by None e h = absurd (let g = h in cc)
-    by (Some s) e h = (shape_known q s e).field
+    by (Some s) e h = (modulus_known q s e).field
 
 -- no larger order is listed
 pub listed_small : (q : ℕ) → has_field q ≡ true → q ≤ POINTS_MAX
-listed_small q h = by (shape_of q) refl h
+listed_small q h = by (modulus_of q) refl h
   where
-    by : (o : Option Shape) → shape_of q ≡ o → is_some o ≡ true → q ≤ POINTS_MAX
+    by : (o : Option Modulus) → modulus_of q ≡ o → is_some o ≡ true → q ≤ POINTS_MAX
     by None e h = absurd (let g = h in cc)
-    by (Some s) e h = (shape_known q s e).small
+    by (Some s) e h = (modulus_known q s e).small
 
 pub listed_past : (q : ℕ) → POINTS_MAX < q → has_field q ≡ false
 listed_past q h = by (has_field q) refl
@@ -145,16 +145,16 @@ listed_past q h = by (has_field q) refl
 
 -- to be listed and to have a field are one
 pub FieldAt-listed : (q : ℕ) → has_field q ≡ true → FieldAt q
-FieldAt-listed q h = by (shape_of q) h
+FieldAt-listed q h = by (modulus_of q) h
   where
-    by : (o : Option Shape) → is_some o ≡ true → IsSomeAnd o (λ s. HasInverses q (field_product q))
+    by : (o : Option Modulus) → is_some o ≡ true → IsSomeAnd o (λ s. HasInverses q (field_product q))
     by None e = cc
     by (Some s) e = (listed_field q h).inverses
 
 pub listed-FieldAt : (q : ℕ) → FieldAt q → has_field q ≡ true
-listed-FieldAt q h = by (shape_of q) h
+listed-FieldAt q h = by (modulus_of q) h
   where
-    by : (o : Option Shape) → IsSomeAnd o (λ s. HasInverses q (field_product q)) → is_some o ≡ true
+    by : (o : Option Modulus) → IsSomeAnd o (λ s. HasInverses q (field_product q)) → is_some o ≡ true
     by None e = absurd e
     by (Some s) e = refl
 

@@ -3,27 +3,27 @@ use Rattle.std.specs.Prelude.{ℕ, ◌≡◌, ◌<◌, ◌≤◌, ◌*◌, ◌/�
 use Rattle.counting.specs.Search.{first_in}
 use Rattle.design_base.specs.Polynomials as polynomials
 use Rattle.design_base.specs.Digits.{reduce, digits, number}
-use Rattle.design_base.specs.Fields.{Shape, shape, shape_of, order, negated, field_sum, field_product, has_field}
+use Rattle.design_base.specs.Fields.{Modulus, modulus, modulus_of, order, negated, field_sum, field_product, has_field}
 use Rattle.design_base.specs.declared.limits.TheConstants.{POINTS_MAX}
 use Rattle.field_tables.specs.declared.polynomial.Polynomial.{Polynomial}
 
-abbrev pub shape_in : Polynomial → Shape
-shape_in f = shape f.prime f.lower.now
+abbrev pub modulus_in : Polynomial → Modulus
+modulus_in f = modulus f.prime f.lower.now
 
 -- the polynomial is the one listed for its order
 abbrev pub IsListed : Polynomial → Type 0
-IsListed f = shape_of f.order ≡ Some (shape_in f)
+IsListed f = modulus_of f.order ≡ Some (modulus_in f)
 
 -- the first of the polynomials whose field has q elements
-abbrev pub found_in : ℕ → List Polynomial → Option Shape
-found_in q fs = first_in (λ s. order s == q) (map shape_in fs)
+abbrev pub found_in : ℕ → List Polynomial → Option Modulus
+found_in q fs = first_in (λ s. order s == q) (map modulus_in fs)
 
 -- x to the degree, as an element
-abbrev pub excess : Shape → ℕ
+abbrev pub excess : Modulus → ℕ
 excess s = number s.prime (reduce s.prime (negated s))
 
 -- x times an element
-abbrev pub shifted : Shape → ℕ → ℕ
+abbrev pub shifted : Modulus → ℕ → ℕ
 shifted s y = number s.prime (reduce s.prime (polynomials.shift (negated s) (digits s.prime (length s.lower) y)))
 
 -- the values of f at the numbers from 0 on

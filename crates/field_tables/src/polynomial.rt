@@ -1,7 +1,7 @@
 ghost use Rattle.std.specs.Prelude.{MatchOption, None, Some, true, ◌==◌, length, ◌<◌, ◌^◌, ◌≡◌, ◌≤◌};
-ghost use Rattle.design_base.specs.Fields.{order, shape, shape_of};
+ghost use Rattle.design_base.specs.Fields.{order, modulus, modulus_of};
 ghost use Rattle.counting.specs.Search.{each_passes};
-ghost use Rattle.field_tables.specs.Tables.{IsListed, excess, found_in, shape_in};
+ghost use Rattle.field_tables.specs.Tables.{IsListed, excess, found_in, modulus_in};
 
 /// The polynomial of a field: the field's order, its prime, and the coefficients of the polynomial but for the
 /// leading one, which is 1, lowest first.
@@ -74,7 +74,7 @@ impl Polynomial {
     /// The power of x to the degree, as an element: the negatives of the coefficients.
     pub fn excess(&self) -> u16
         requires { IsListed self.now }
-        ensures value { result ≡ excess (shape_in self.now) }
+        ensures value { result ≡ excess (modulus_in self.now) }
         ensures below { result < self.now.order }
     {
         negated(self.prime, self.lower)
@@ -85,7 +85,7 @@ impl Polynomial {
 fn negated(prime: u16, lower: &[u16]) -> u16
     requires two { 2 ≤ prime }
     requires room { prime ^ length lower.now < 2 ^ 16 }
-    ensures value { result ≡ excess (shape prime lower.now) }
+    ensures value { result ≡ excess (modulus prime lower.now) }
     ensures below { result < prime ^ length lower.now }
 {
     match lower {
@@ -96,15 +96,15 @@ fn negated(prime: u16, lower: &[u16]) -> u16
 
 /// The listed polynomial of this order.
 pub fn listed(q: u16) -> Option<&'static Polynomial>
-    ensures { MatchOption result (shape_of q ≡ None) (λ f. (f.now.order ≡ q) × IsListed f.now) }
+    ensures { MatchOption result (modulus_of q ≡ None) (λ f. (f.now.order ≡ q) × IsListed f.now) }
 {
     of_order(&LISTED, q)
 }
 
 // The first of the polynomials whose field has this order.
 fn of_order(polynomials: &[Polynomial], q: u16) -> Option<&Polynomial>
-    requires orders { each_passes (λ f. f.order == order (shape_in f)) polynomials.now ≡ true }
-    ensures { MatchOption result (found_in q polynomials.now ≡ None) (λ f. (f.now.order ≡ q) × (found_in f.now.order polynomials.now ≡ Some (shape_in f.now))) }
+    requires orders { each_passes (λ f. f.order == order (modulus_in f)) polynomials.now ≡ true }
+    ensures { MatchOption result (found_in q polynomials.now ≡ None) (λ f. (f.now.order ≡ q) × (found_in f.now.order polynomials.now ≡ Some (modulus_in f.now))) }
 {
     for polynomial in polynomials {
         if polynomial.order == q {

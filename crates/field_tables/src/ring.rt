@@ -1,6 +1,6 @@
 ghost use Rattle.std.specs.Prelude.{IfOk, MatchOption, length, slice_index, true, ◌%◌, ◌*◌, ◌+◌, ◌<◌, ◌^◌, ◌≡◌, ◌≤◌, ℕ};
 ghost use Rattle.design_base.specs.Fields.{field_product, field_sum, has_field};
-ghost use Rattle.field_tables.specs.Tables.{IsListed, IsModular, IsTable, IsValues, by_rows, shape_in, shifted};
+ghost use Rattle.field_tables.specs.Tables.{IsListed, IsModular, IsTable, IsValues, by_rows, modulus_in, shifted};
 
 use crate::polynomial::Polynomial;
 use design_base::Memory;
@@ -143,7 +143,7 @@ fn shift_table(alloc: Global, polynomial: &Polynomial, sums: &[u8]) -> Result<Ve
     requires listed { IsListed polynomial.now }
     requires sums { IsTable (field_sum polynomial.now.order) polynomial.now.order sums.now }
     ensures size { IfOk result (λ t. length t.items ≡ polynomial.now.order) }
-    ensures values { IfOk result (λ t. IsValues (shifted (shape_in polynomial.now)) t.items) }
+    ensures values { IfOk result (λ t. IsValues (shifted (modulus_in polynomial.now)) t.items) }
 {
     let mut shifts = Vec::new(alloc);
     for y in 0..polynomial.order {
@@ -158,8 +158,8 @@ fn next_shift(polynomial: &Polynomial, sums: &[u8], shifts: &[u8], y: u16) -> u1
     requires sums { IsTable (field_sum polynomial.now.order) polynomial.now.order sums.now }
     requires y_below { y < polynomial.now.order }
     requires size { length shifts.now ≡ y }
-    requires shifts { IsValues (shifted (shape_in polynomial.now)) shifts.now }
-    ensures shift { result ≡ shifted (shape_in polynomial.now) y }
+    requires shifts { IsValues (shifted (modulus_in polynomial.now)) shifts.now }
+    ensures shift { result ≡ shifted (modulus_in polynomial.now) y }
     ensures below { result < polynomial.now.order }
 {
     let Polynomial { order, prime, .. } = *polynomial;
@@ -181,7 +181,7 @@ fn product_table(
     requires listed { IsListed polynomial.now }
     requires sums { IsTable (field_sum polynomial.now.order) polynomial.now.order sums.now }
     requires size { length shifts.now ≡ polynomial.now.order }
-    requires shifts { IsValues (shifted (shape_in polynomial.now)) shifts.now }
+    requires shifts { IsValues (shifted (modulus_in polynomial.now)) shifts.now }
     ensures { IfOk result (λ t. IsTable (field_product polynomial.now.order) polynomial.now.order t.items) }
 {
     let mut products = Vec::new(alloc);
@@ -207,7 +207,7 @@ fn next_product(
     requires listed { IsListed polynomial.now }
     requires sums { IsTable (field_sum polynomial.now.order) polynomial.now.order sums.now }
     requires shifted { length shifts.now ≡ polynomial.now.order }
-    requires shifts { IsValues (shifted (shape_in polynomial.now)) shifts.now }
+    requires shifts { IsValues (shifted (modulus_in polynomial.now)) shifts.now }
     requires x_below { x < polynomial.now.order }
     requires y_below { y < polynomial.now.order }
     requires size { length products.now ≡ x * polynomial.now.order + y }

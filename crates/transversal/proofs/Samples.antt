@@ -5,7 +5,7 @@ use Rattle.counting.specs.Sorting.{insert_by, sort_by}
 use Rattle.counting.specs.Sums.{join_below}
 use Rattle.design_base.specs.Arrays.{blocks_of_rows, place, row_block, rows_of_blocks}
 use Rattle.design_base.specs.Canonical.{canonical, lex_le}
-use Rattle.design_base.specs.Fields.{field_product, field_sum, shape_of, shapes}
+use Rattle.design_base.specs.Fields.{field_product, field_sum, modulus_of, moduli}
 use Rattle.transversal.specs.Constructions.{base_rows, cyclic_blocks, cyclic_row, cyclic_rows, field_blocks, field_row, field_rows, one_blocks, one_rows, parker_blocks, parker_rows, product_blocks, product_row, product_rows, products_of, quadruple, raised, rows_below, turn, turned, turned_below}
 
 one_block : canonical (one_blocks 3) ≡ (0 ∷ 1 ∷ 2 ∷ []) ∷ []
@@ -25,11 +25,11 @@ unfolding canonical sort_by insert_by lex_le blocks_of_rows row_block place join
 two_columns = refl
 
 field_of_three : canonical (field_blocks 4 3) ≡ (0 ∷ 3 ∷ 6 ∷ 9 ∷ []) ∷ (0 ∷ 4 ∷ 7 ∷ 10 ∷ []) ∷ (0 ∷ 5 ∷ 8 ∷ 11 ∷ []) ∷ (1 ∷ 3 ∷ 7 ∷ 11 ∷ []) ∷ (1 ∷ 4 ∷ 8 ∷ 9 ∷ []) ∷ (1 ∷ 5 ∷ 6 ∷ 10 ∷ []) ∷ (2 ∷ 3 ∷ 8 ∷ 10 ∷ []) ∷ (2 ∷ 4 ∷ 6 ∷ 11 ∷ []) ∷ (2 ∷ 5 ∷ 7 ∷ 9 ∷ []) ∷ []
-unfolding canonical sort_by insert_by lex_le blocks_of_rows row_block place join_below rows_below field_row field_rows field_sum field_product shape_of shapes first_in
+unfolding canonical sort_by insert_by lex_le blocks_of_rows row_block place join_below rows_below field_row field_rows field_sum field_product modulus_of moduli first_in
 field_of_three = refl
 
 field_of_four : canonical (field_blocks 4 4) ≡ (0 ∷ 4 ∷ 8 ∷ 12 ∷ []) ∷ (0 ∷ 5 ∷ 9 ∷ 13 ∷ []) ∷ (0 ∷ 6 ∷ 10 ∷ 14 ∷ []) ∷ (0 ∷ 7 ∷ 11 ∷ 15 ∷ []) ∷ (1 ∷ 4 ∷ 9 ∷ 14 ∷ []) ∷ (1 ∷ 5 ∷ 8 ∷ 15 ∷ []) ∷ (1 ∷ 6 ∷ 11 ∷ 12 ∷ []) ∷ (1 ∷ 7 ∷ 10 ∷ 13 ∷ []) ∷ (2 ∷ 4 ∷ 10 ∷ 15 ∷ []) ∷ (2 ∷ 5 ∷ 11 ∷ 14 ∷ []) ∷ (2 ∷ 6 ∷ 8 ∷ 13 ∷ []) ∷ (2 ∷ 7 ∷ 9 ∷ 12 ∷ []) ∷ (3 ∷ 4 ∷ 11 ∷ 13 ∷ []) ∷ (3 ∷ 5 ∷ 10 ∷ 12 ∷ []) ∷ (3 ∷ 6 ∷ 9 ∷ 15 ∷ []) ∷ (3 ∷ 7 ∷ 8 ∷ 14 ∷ []) ∷ []
-unfolding canonical sort_by insert_by lex_le blocks_of_rows row_block place join_below rows_below field_row field_rows field_sum field_product shape_of shapes first_in
+unfolding canonical sort_by insert_by lex_le blocks_of_rows row_block place join_below rows_below field_row field_rows field_sum field_product modulus_of moduli first_in
 field_of_four = refl
 
 product_of_rows : product_row 3 3 (1 ∷ 0 ∷ 1 ∷ []) (2 ∷ 1 ∷ 0 ∷ []) ≡ 5 ∷ 1 ∷ 3 ∷ []

@@ -1,4 +1,4 @@
-use Rattle.std.proofs.Common.{[], ◌∙◌, arith}
+use Rattle.std.proofs.Common.{[], ◌∙◌}
 use Rattle.design_io.proofs.Pieces.{Appends-flat_map, AppendsWhole-flat_map}
 use Rattle.derivation_text.proofs.Texts.{all_lines, line_at, line_within}
 use Rattle.derivation_text.specs.Text.{numbered_lines}
@@ -19,7 +19,7 @@ loop-i-preserved g c =
           Appends-flat_map (g.K.Sink.held c.args.sink.now) (g.K.Sink.held c.loop-i.sink) (g.K.Sink.held c.write_whole.new.sink) (λ line. line) (numbered_lines 1 D) c.loop-i.i [] c.bytes.result.now
           c.loop-i.invariant.bytes (line_within D c.loop-i.i c.loop-i-test.true)
           (line_at D c.loop-i.i c.index-lines-i.result c.bytes.result.now c.loop-i-test.true c.index-lines-i.is (c.bytes.ensures.bytes ∙ c.numbered_line.ensures)) c.in_ok-write_whole.ensures.bytes;
-      later = omega (arith, c.loop-i.invariant.later, c.in_ok-write_whole.ensures.cause);
+      faults = c.in_ok-write_whole.ensures.kept ∙ c.loop-i.invariant.faults;
     }
 
 pub returns-clause-bytes : goal.returns-clause-bytes

@@ -1,4 +1,4 @@
-use Rattle.std.proofs.Common.{arith}
+use Rattle.std.proofs.Common.{◌∙◌, ap, length, arith}
 use Rattle.std.proofs.lemmas.List.{take_rest}
 use Rattle.design_io.proofs.Pieces.{Appends-take_more}
 use Rattle.design_io.proofs.writing.write_whole.Goals as goal
@@ -9,5 +9,6 @@ loop-at-preserved g c = record {
   bytes =
       Appends-take_more (g.K.Sink.held c.args.sink.now) (g.K.Sink.held c.loop-at.sink) (g.K.Sink.held c.write.new.self) c.args.bytes.now c.loop-at.at c.in_ok-at.field-0
       c.loop-at.invariant.bytes (rw (take_rest c.args.bytes.now c.loop-at.at) at c.in_ok-at.ensures.bytes);
-  later = omega arith;
+  faults = c.in_ok-at.ensures.kept ∙ c.loop-at.invariant.faults;
+  none = λ empty. absurd (omega (arith, ap length empty));
 }

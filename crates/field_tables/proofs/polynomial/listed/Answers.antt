@@ -1,6 +1,6 @@
 use Rattle.std.proofs.Common.{refl}
 use Rattle.counting.specs.Search.{each_passes}
-use Rattle.design_base.specs.Fields.{shapes, shape_of}
+use Rattle.design_base.specs.Fields.{moduli, modulus_of}
 use Rattle.field_tables.proofs.polynomial.listed.Goals as goal
 
 pub of_order-requires : goal.of_order-requires
@@ -8,5 +8,5 @@ unfolding each_passes
 of_order-requires c = record { orders = refl }
 
 pub returns : goal.returns
-unfolding shape_of shapes
+unfolding modulus_of moduli
 returns c = c.of_order.ensures

@@ -1,5 +1,5 @@
 use Rattle.std.proofs.Common.{arith, ◌-◌}
-use Rattle.field_tables.specs.Tables.{shape_in, shifted}
+use Rattle.field_tables.specs.Tables.{modulus_in, shifted}
 use Rattle.field_tables.proofs.Fill.{positive, shift_below, product_first, product_below, multiple_inside, multiple_after, next_inside, before_is, next_after}
 use Rattle.field_tables.proofs.Values.{in_table}
 use Rattle.field_tables.proofs.ring.next_product.Goals as goal
@@ -14,7 +14,7 @@ pub entry-requires : goal.entry-requires
 entry-requires c =
     let f = c.args.polynomial.now in
     let value = c.requires.shifts c.args.y (omega arith) in
-    let inside = multiple_inside f c.requires.listed c.args.x c.args.y (shifted (shape_in f) c.args.y) (omega arith) (shift_below f c.requires.listed c.args.y c.requires.y_below) in
+    let inside = multiple_inside f c.requires.listed c.args.x c.args.y (shifted (modulus_in f) c.args.y) (omega arith) (shift_below f c.requires.listed c.args.y c.requires.y_below) in
     rw value (omega (arith, inside))
 
 pub returns-then-x-prime-eq0-clause-product : goal.returns-then-x-prime-eq0-clause-product

@@ -1,5 +1,5 @@
 use Rattle.std.proofs.Common.{arith, ◌<◌, ◌-◌, ◌/◌}
-use Rattle.field_tables.specs.Tables.{shape_in, shifted}
+use Rattle.field_tables.specs.Tables.{modulus_in, shifted}
 use Rattle.field_tables.proofs.Fill.{positive, shift_first, before_high, shift_below, shift_after}
 use Rattle.field_tables.proofs.Values.{in_table}
 use Rattle.field_tables.proofs.ring.next_shift.Goals as goal
@@ -20,7 +20,7 @@ entry-requires c =
     let before : y < c.args.y = before_high f c.requires.listed c.args.y c.if-y-high.false in
     let value = c.requires.shifts y (omega arith) in
     let below = shift_below f c.requires.listed y (omega arith) in
-    let inside = in_table f.order (shifted (shape_in f) y) c.excess.result below c.excess.ensures.below in
+    let inside = in_table f.order (shifted (modulus_in f) y) c.excess.result below c.excess.ensures.below in
     rw value (omega (arith, inside, c.requires.sums.size))
 
 pub returns-clause-shift : goal.returns-clause-shift
