@@ -1,7 +1,7 @@
 use Rattle.std.proofs.Common.{arith, refl, ◌∙◌}
 use Rattle.std.proofs.lemmas.List.{length-set}
-use Rattle.wilson.proofs.Steps.{raised_from_front, raised_row_next}
-use Rattle.wilson.proofs.filling.push_raised_row.Goals as goal
+use Rattle.transversal.proofs.Steps.{raised_from_front, raised_row_next}
+use Rattle.transversal.proofs.blocks.push_raised_row.Goals as goal
 
 pub loop-j-preserved : goal.loop-j-preserved
 loop-j-preserved c = record {

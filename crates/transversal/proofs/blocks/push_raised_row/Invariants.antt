@@ -2,7 +2,7 @@
 use Rattle.std.proofs.Common.{[], length, take, ◌∷◌, ◌≡◌}
 use Rattle.design_base.specs.declared.limits.TheConstants.{TD_K_MAX}
 use Rattle.transversal.specs.Constructions.{raised}
-use Rattle.wilson.proofs.filling.push_raised_row.Given as goal
+use Rattle.transversal.proofs.blocks.push_raised_row.Given as goal
 
 abbrev pub invariant-loop-j : goal.invariant-loop-j
 invariant-loop-j l = record {
