@@ -1,4 +1,5 @@
 pub mod Terms
+pub mod TdTerms
 pub mod Table
 pub mod Candidates
 pub mod Rank
