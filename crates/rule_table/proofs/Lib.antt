@@ -9,5 +9,7 @@ pub mod Passing
 pub mod Rules
 pub mod Spelled
 pub mod TdRules
+pub mod Told
 pub mod Turns
 pub mod Unfolds
+pub mod Works

@@ -2,6 +2,7 @@
 use Rattle.std.proofs.Common.{◌≡◌, ℕ, ◌+◌, ◌*◌, ◌<◌, ◌≤◌, arith, refl}
 use Rattle.std.proofs.lemmas.Bool.{eqb-true, leb-true}
 use Rattle.std.proofs.Math.Nat.{mul-le-mul_left, mul-le-mul}
+use Rattle.design_base.specs.declared.limits.TheConstants.{PREMISES_MAX}
 use Rattle.design_base.specs.declared.rule.Rule.{Rule}
 use Rattle.design_base.specs.declared.rule.Rule.TheVariants.{TdOne, Cyclic, Field, Product, Parker, Wilson1, Wilson2}
 use Rattle.design_base.specs.Rules.{title}
@@ -43,8 +44,9 @@ td_grounded k n Product = λ a b c bounds.
     let f = product_smaller a b n (leb-true _ _ d.1) (leb-true _ _ ordered.1) (eqb-true _ _ d.0) in
     record { last = refl; few = omega arith; smaller = (f.0, (f.1, tt)) }
 td_grounded k n Parker = λ m c bounds.
+    let few : 1 ≤ PREMISES_MAX = omega arith in
     let least = both _ _ c in
-    record { last = refl; few = omega arith; smaller = (parker_smaller m n (leb-true _ _ least.1) (eqb-true _ _ (both _ _ least.0).1), tt) }
+    record { last = refl; few = few; smaller = (parker_smaller m n (leb-true _ _ least.1) (eqb-true _ _ (both _ _ least.0).1), tt) }
 td_grounded k n Wilson1 = λ m t u c bounds.
     let most = both _ _ c in
     let least = both _ _ most.0 in

@@ -5,6 +5,7 @@ pub mod Candidates
 pub mod Rank
 pub mod Verdicts
 pub mod Asked
+pub mod Work
 pub mod Walks
 pub mod Takens
 pub mod Nexts
