@@ -7,6 +7,7 @@ pub mod Grounded
 pub mod Members
 pub mod Passing
 pub mod Rules
+mod Samples
 pub mod Spelled
 pub mod TdRules
 pub mod Told
