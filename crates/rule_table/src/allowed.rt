@@ -2,13 +2,14 @@ ghost use Rattle.std.specs.Prelude.{◌≡◌, ◌≤◌, true, ◌↔◌, lengt
 ghost use Rattle.std.specs.List.{AllByRecursion, Contains};
 ghost use Rattle.design_base.specs.declared.limits.TheConstants.{PARAMETER_MAX, PREMISES_MAX};
 ghost use Rattle.design_base.specs.Limits.{in_bounds, within};
+ghost use Rattle.design_base.specs.Rules.{title};
 ghost use Rattle.rule_table.specs.Candidates.{candidates, premises as premises_of, is_candidate as is_candidate_of};
 ghost use Rattle.rule_table.specs.Table.{terms};
 ghost use Rattle.rule_table.specs.Takens.{listed, IsSmall};
 ghost use Rattle.rule_table.specs.Terms.{allows, premises_at};
 ghost use Rattle.rule_table.specs.Walks.{terms_at};
 
-use crate::next::{Next, Premises};
+use crate::next::Next;
 use crate::table::next_of;
 use crate::taken::Taken;
 use crate::tools::Tools;
@@ -28,6 +29,7 @@ fn is_within(low: u16, high: u16, x: u16) -> bool
 fn is_allowed(tools: &Tools, q: &Query, rule: Rule, taken: Taken, rest: &[u16]) -> bool
     requires bounds { in_bounds q.now ≡ true }
     requires small { IsSmall taken }
+    requires count { length (listed taken) ≤ (title rule).parameters }
     requires rest_small { AllByRecursion (λ x. x ≤ PARAMETER_MAX) rest.now }
     ensures { result ≡ allows (terms_at (terms q.now rule) (listed taken)) rest.now }
 {
@@ -42,7 +44,8 @@ fn is_allowed(tools: &Tools, q: &Query, rule: Rule, taken: Taken, rest: &[u16]) 
     }
 }
 
-/// Whether the step is a candidate of the question, which is in bounds.
+/// Whether the step is a candidate of the question, which is in bounds: its rule serves questions of that kind, and the table allows its
+/// parameters. Takes no memory.
 #[tactic(auto, using(crate::proofs::Members::candidate_laws))]
 pub fn is_candidate(tools: &Tools, q: &Query, step: &Step) -> bool
     requires { in_bounds q.now ≡ true }
@@ -50,14 +53,21 @@ pub fn is_candidate(tools: &Tools, q: &Query, step: &Step) -> bool
     ensures member { result ≡ true ↔ Contains (candidates q.now) step.now }
 {
     let parameters = [step.a, step.b, step.c, step.d];
-    is_allowed(tools, q, step.rule, Taken::Zero, &parameters)
+    step.rule.serves(q.kind()) && is_allowed(tools, q, step.rule, Taken::Zero, &parameters)
 }
 
 // The premises at the rest of the parameters, which the table allows.
 #[tactic(auto, using(crate::proofs::Members::premises_behind_laws))]
-fn premises_behind(tools: &Tools, q: &Query, rule: Rule, taken: Taken, rest: &[u16]) -> Premises
+fn premises_behind(
+    tools: &Tools,
+    q: &Query,
+    rule: Rule,
+    taken: Taken,
+    rest: &[u16],
+) -> SmallVec<Query, 8>
     requires bounds { in_bounds q.now ≡ true }
     requires small { IsSmall taken }
+    requires count { length (listed taken) ≤ (title rule).parameters }
     requires rest_small { AllByRecursion (λ x. x ≤ PARAMETER_MAX) rest.now }
     requires allowed { allows (terms_at (terms q.now rule) (listed taken)) rest.now ≡ true }
     ensures items { result.items ≡ premises_at (terms_at (terms q.now rule) (listed taken)) rest.now }
@@ -73,9 +83,10 @@ fn premises_behind(tools: &Tools, q: &Query, rule: Rule, taken: Taken, rest: &[u
     }
 }
 
-/// The questions on which a candidate rests, in order. The question is in bounds, and the step is one of its candidates.
+/// The questions on which a candidate rests, in order. The question is in bounds, and the step is one of its candidates. They are at most
+/// `PREMISES_MAX`, and the list takes no memory.
 #[tactic(auto, using(crate::proofs::Members::premises_laws))]
-pub fn premises(tools: &Tools, q: &Query, step: &Step) -> Premises
+pub fn premises(tools: &Tools, q: &Query, step: &Step) -> SmallVec<Query, 8>
     requires bounds { in_bounds q.now ≡ true }
     requires candidate { is_candidate_of q.now step.now ≡ true }
     ensures items { result.items ≡ premises_of q.now step.now }
