@@ -24,7 +24,7 @@ use Rattle.block_counts.proofs.Groups.{few_groups, group_count, group_replicatio
 use Rattle.block_counts.proofs.Parts.{parts}
 use Rattle.block_counts.proofs.Replication.{block_count, number_times}
 use Rattle.criteria.specs.declared.table.Comparison.{Comparison}
-use Rattle.criteria.specs.Criteria.{comparison_of, comparisons, criterion_of, reach}
+use Rattle.criteria.specs.Criteria.{reason_of, reasons, criterion_of, reach}
 use Rattle.criteria.proofs.Bound.{groups_bound}
 
 abbrev Fails : Comparison → Type 0
@@ -40,12 +40,12 @@ not_less a b h = grind (arith, nat_tests)
 not_both : (a b c d : ℕ) → (a < b → d ≤ c) → (nat_lt a b && nat_lt c d) ≡ false
 not_both a b c d h = grind (arith, nat_tests)
 
-not_three : (a b c d e : ℕ) → (a ≡ b → 2 ≤ c → e ≤ d) → ((a == b) && (2 <= c) && nat_lt d e) ≡ false
-not_three a b c d e h = grind (arith, nat_tests)
+not_all : (a b c d e : ℕ) → (a ≡ b → 2 ≤ c → e ≤ d) → ((a == b) && (2 <= c) && nat_lt d e) ≡ false
+not_all a b c d e h = grind (arith, nat_tests)
 
 -- ---- each kind of design
-bibd_fails : (v k l : ℕ) (B : List (List ℕ)) → 2 ≤ k → k ≤ v → 1 ≤ l → IsBibd B v k l → AllByRecursion Fails (comparisons (Bibd v k l))
-unfolding comparisons
+bibd_fails : (v k l : ℕ) (B : List (List ℕ)) → 2 ≤ k → k ≤ v → 1 ≤ l → IsBibd B v k l → AllByRecursion Fails (reasons (Bibd v k l))
+unfolding reasons
 bibd_fails v k l B two most some design = (
   divided (k - 1) (replication_number v k l) (l * (v - 1)) (number_times B v k l design two 0 (omega arith)),
   (
@@ -54,19 +54,19 @@ bibd_fails v k l B two most some design = (
   ),
 )
 
-td_fails : (k n : ℕ) (B : List (List ℕ)) → 2 ≤ k → IsGdd B k n k → AllByRecursion Fails (comparisons (Td k n))
-unfolding comparisons
+td_fails : (k n : ℕ) (B : List (List ℕ)) → 2 ≤ k → IsGdd B k n k → AllByRecursion Fails (reasons (Td k n))
+unfolding reasons
 td_fails k n B two design = (let most = groups_bound k n B two in bounded k n (λ h. most h design), tt)
   where
     bounded : (k n : ℕ) → (2 ≤ n → k ≤ n + 1) → ((2 <= n) && nat_lt (n + 1) k) ≡ false
     bounded k n h = grind (arith, nat_tests)
 
-gdd_fails : (k g u : ℕ) (B : List (List ℕ)) → 2 ≤ k → 1 ≤ g → 2 ≤ u → IsGdd B k g u → AllByRecursion Fails (comparisons (Gdd k g u))
-unfolding comparisons
+gdd_fails : (k g u : ℕ) (B : List (List ℕ)) → 2 ≤ k → 1 ≤ g → 2 ≤ u → IsGdd B k g u → AllByRecursion Fails (reasons (Gdd k g u))
+unfolding reasons
 gdd_fails k g u B two some more design = (
   not_less u k (few_groups B k g u design some more),
   (
-    not_three u k g (g + 1) k (λ same big. groups_bound k g B two big (subst (λ t. IsGdd B k g t) same design)),
+    not_all u k g (g + 1) k (λ same big. groups_bound k g B two big (subst (λ t. IsGdd B k g t) same design)),
     (
       divided (k - 1) (replication B 0) (g * (u - 1)) (group_replication B k g u design two 0 (mul-pos some (let h : 0 < u = omega arith in h))),
       (divided (k * (k - 1)) (length B) (g * g * u * (u - 1)) (group_count B k g u design two), tt),
@@ -84,18 +84,18 @@ group_sum group v some at =
       cancels = λ x d e l m n same. group_cancel v (group_add group v) sums x d e m n same;
     }
 
-df_fails : (group : Group) (v k l : ℕ) (B : List (List ℕ)) → 1 ≤ v → Meets (Df group v k l) B → AllByRecursion Fails (comparisons (Df group v k l))
-unfolding comparisons
+df_fails : (group : Group) (v k l : ℕ) (B : List (List ℕ)) → 1 ≤ v → Meets (Df group v k l) B → AllByRecursion Fails (reasons (Df group v k l))
+unfolding reasons
 df_fails group v k l B some meets = (divided (k * (k - 1)) (length B) (l * (v - 1)) (differences_counted B (group_add group v) v k l (group_sum group v some meets.0) meets.1 some), tt)
 
-pbd_fails : (v s : ℕ) (B : List (List ℕ)) → 1 ≤ v → 2 ≤ s → IsPbd B v s → AllByRecursion Fails (comparisons (Pbd v s))
-unfolding comparisons
+pbd_fails : (v s : ℕ) (B : List (List ℕ)) → 1 ≤ v → 2 ≤ s → IsPbd B v s → AllByRecursion Fails (reasons (Pbd v s))
+unfolding reasons
 pbd_fails v s B some two design =
     let cut = parts B v s design (let h : 1 ≤ s = omega arith in h) 0 some in
     let fits : replication B 0 ≤ (v - 1) / (s - 1) = (le-div_iff_mul-le (let h : 0 < s - 1 = omega arith in h)).1 cut.0 in
     (not_less (reach v s) (v - 1) (omega (arith, cut.1, mul-le-mul_right s fits)), tt)
 
-none_applies : (q : Query) (B : List (List ℕ)) → in_bounds q ≡ true → Meets q B → AllByRecursion Fails (comparisons q)
+none_applies : (q : Query) (B : List (List ℕ)) → in_bounds q ≡ true → Meets q B → AllByRecursion Fails (reasons q)
 unfolding in_bounds
 none_applies (Bibd v k l) B bounds meets = bibd_fails v k l B (grind (arith, nat_tests)) (grind (arith, nat_tests)) (grind (arith, nat_tests)) meets
 none_applies (Td k n) B bounds meets = td_fails k n B (grind (arith, nat_tests)) meets
@@ -109,8 +109,8 @@ none_found [] h = refl
 none_found (row ∷ rows) h = ap (λ t. cond t (Some row) (find (λ row. row.applies) rows)) h.0 ∙ none_found rows h.1
 
 pub criterion_law : (q : Query) → in_bounds q ≡ true → IsSome (criterion_of q) → (B : List (List ℕ)) → Meets q B → ⊥
-unfolding comparison_of
-criterion_law q bounds some B meets = none (criterion_of q) (ap (option_map (λ row. row.criterion)) (none_found (comparisons q) (none_applies q B bounds meets))) some
+unfolding reason_of
+criterion_law q bounds some B meets = none (criterion_of q) (ap (option_map (λ row. row.criterion)) (none_found (reasons q) (none_applies q B bounds meets))) some
   where
     none : (o : Option Criterion) → o ≡ None → IsSome o → ⊥
     none o e h = false≢true (subst IsSome e h)

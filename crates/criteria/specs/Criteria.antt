@@ -21,36 +21,36 @@ undivided c n d = comparing c (not (divides d n)) n d
 abbrev pub reach : ℕ → ℕ → ℕ
 reach v s = (v - 1) / (s - 1) * s
 
--- the table of criteria: those of each kind of question, in their order
-unfoldable pub comparisons : Query → List Comparison
-comparisons (Bibd v k l) =
+-- the table of criteria: for each kind of question the reasons why there may be no design, in their order
+unfoldable pub reasons : Query → List Comparison
+reasons (Bibd v k l) =
     undivided Replication (l * (v - 1)) (k - 1)
     ∷ undivided Count (v * replication_number v k l) k
     ∷ comparing Fisher (nat_lt k v && nat_lt (replication_number v k l) k) (replication_number v k l) k
     ∷ []
-comparisons (Td k n) =
+reasons (Td k n) =
     comparing Groups (2 <= n && nat_lt (n + 1) k) k (n + 1)
     ∷ []
-comparisons (Gdd k g u) =
+reasons (Gdd k g u) =
     comparing FewGroups (nat_lt u k) u k
     ∷ comparing Groups (u == k && 2 <= g && nat_lt (g + 1) k) k (g + 1)
     ∷ undivided GroupReplication (g * (u - 1)) (k - 1)
     ∷ undivided GroupCount (g * g * u * (u - 1)) (k * (k - 1))
     ∷ []
-comparisons (Df group v k l) =
+reasons (Df group v k l) =
     undivided Differences (l * (v - 1)) (k * (k - 1))
     ∷ []
-comparisons (Pbd v s) =
+reasons (Pbd v s) =
     comparing Points (nat_lt (reach v s) (v - 1)) (v - 1) (reach v s)
     ∷ []
 
 -- the first that applies
-unfoldable pub comparison_of : Query → Option Comparison
-comparison_of q = find (λ r. r.applies) (comparisons q)
+unfoldable pub reason_of : Query → Option Comparison
+reason_of q = find (λ r. r.applies) (reasons q)
 
 abbrev pub criterion_of : Query → Option Criterion
-criterion_of q = option_map (λ r. r.criterion) (comparison_of q)
+criterion_of q = option_map (λ r. r.criterion) (reason_of q)
 
 -- its two numbers
 abbrev pub numbers_of : Query → Option (ℕ × ℕ)
-numbers_of q = option_map (λ r. (r.first, r.second)) (comparison_of q)
+numbers_of q = option_map (λ r. (r.first, r.second)) (reason_of q)

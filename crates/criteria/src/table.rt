@@ -1,5 +1,5 @@
 ghost use Rattle.std.specs.Prelude.{◌≡◌, ℕ, ◌<◌, true, find};
-ghost use Rattle.criteria.specs.Criteria.{comparing as comparing_of, comparison_of, comparisons, undivided as undivided_of};
+ghost use Rattle.criteria.specs.Criteria.{comparing as comparing_of, reason_of, reasons, undivided as undivided_of};
 ghost use Rattle.design_base.specs.Limits.{in_bounds};
 
 use design_base::{Criterion, Group, Query};
@@ -47,10 +47,10 @@ fn first_that_applies(table: &[Comparison]) -> Option<Comparison>
 }
 
 // The criteria of balanced incomplete block designs.
-#[tactic(auto, unfolding(crate::specs::Criteria::comparisons, design_base::specs::Limits::in_bounds))]
+#[tactic(auto, unfolding(crate::specs::Criteria::reasons, design_base::specs::Limits::in_bounds))]
 fn bibd(v: u16, k: u16, l: u16) -> [Comparison; 3]
     requires { in_bounds (Query.Bibd v k l) ≡ true }
-    ensures { result ≡ comparisons (Query.Bibd v k l) }
+    ensures { result ≡ reasons (Query.Bibd v k l) }
 {
     let (v, k, l) = (u32::from(v), u32::from(k), u32::from(l));
     let companions = l * (v - 1);
@@ -63,20 +63,20 @@ fn bibd(v: u16, k: u16, l: u16) -> [Comparison; 3]
 }
 
 // The criterion of transversal designs.
-#[tactic(auto, unfolding(crate::specs::Criteria::comparisons, design_base::specs::Limits::in_bounds))]
+#[tactic(auto, unfolding(crate::specs::Criteria::reasons, design_base::specs::Limits::in_bounds))]
 fn td(k: u16, n: u16) -> [Comparison; 1]
     requires { in_bounds (Query.Td k n) ≡ true }
-    ensures { result ≡ comparisons (Query.Td k n) }
+    ensures { result ≡ reasons (Query.Td k n) }
 {
     let (k, n) = (u32::from(k), u32::from(n));
     [comparing(Criterion::Groups, n >= 2 && k > n + 1, k, n + 1)]
 }
 
 // The criteria of group divisible designs.
-#[tactic(auto, using(crate::proofs::Tables::pairs_fit), unfolding(crate::specs::Criteria::comparisons, design_base::specs::Limits::in_bounds))]
+#[tactic(auto, using(crate::proofs::Tables::pairs_fit), unfolding(crate::specs::Criteria::reasons, design_base::specs::Limits::in_bounds))]
 fn gdd(k: u16, g: u16, u: u16) -> [Comparison; 4]
     requires { in_bounds (Query.Gdd k g u) ≡ true }
-    ensures { result ≡ comparisons (Query.Gdd k g u) }
+    ensures { result ≡ reasons (Query.Gdd k g u) }
 {
     let (k, g, u) = (u32::from(k), u32::from(g), u32::from(u));
     [
@@ -88,20 +88,20 @@ fn gdd(k: u16, g: u16, u: u16) -> [Comparison; 4]
 }
 
 // The criterion of difference families.
-#[tactic(auto, unfolding(crate::specs::Criteria::comparisons, design_base::specs::Limits::in_bounds))]
+#[tactic(auto, unfolding(crate::specs::Criteria::reasons, design_base::specs::Limits::in_bounds))]
 fn df(group: Group, v: u16, k: u16, l: u16) -> [Comparison; 1]
     requires { in_bounds (Query.Df group v k l) ≡ true }
-    ensures { result ≡ comparisons (Query.Df group v k l) }
+    ensures { result ≡ reasons (Query.Df group v k l) }
 {
     let (v, k, l) = (u32::from(v), u32::from(k), u32::from(l));
     [undivided(Criterion::Differences, l * (v - 1), k * (k - 1))]
 }
 
 // The criterion of pairwise balanced designs.
-#[tactic(auto, unfolding(crate::specs::Criteria::comparisons, design_base::specs::Limits::in_bounds))]
+#[tactic(auto, unfolding(crate::specs::Criteria::reasons, design_base::specs::Limits::in_bounds))]
 fn pbd(v: u16, s: u16) -> [Comparison; 1]
     requires { in_bounds (Query.Pbd v s) ≡ true }
-    ensures { result ≡ comparisons (Query.Pbd v s) }
+    ensures { result ≡ reasons (Query.Pbd v s) }
 {
     let (v, s) = (u32::from(v), u32::from(s));
     let reach = (v - 1) / (s - 1) * s;
@@ -109,10 +109,10 @@ fn pbd(v: u16, s: u16) -> [Comparison; 1]
 }
 
 // The first criterion that applies to the question, with its numbers.
-#[tactic(auto, unfolding(crate::specs::Criteria::comparison_of))]
+#[tactic(auto, unfolding(crate::specs::Criteria::reason_of))]
 pub fn decisive(q: &Query) -> Option<Comparison>
     requires { in_bounds q.now ≡ true }
-    ensures { result ≡ comparison_of q.now }
+    ensures { result ≡ reason_of q.now }
 {
     match *q {
         Query::Bibd { v, k, l } => first_that_applies(&bibd(v, k, l)),
