@@ -2,7 +2,7 @@ use Rattle.std.proofs.Common.{◌≤◌, map, arith, subst, sym, ap, ◌∙◌}
 use Rattle.design_base.specs.Blocks.{IsTd}
 use Rattle.design_base.specs.Canonical.{canonical}
 use Rattle.design_base.specs.declared.query.Query.TheVariants.{Td}
-use Rattle.transversal.specs.Constructions.{field_blocks, product_blocks, parker_blocks}
+use Rattle.transversal.specs.Constructions.{product_blocks, parker_blocks}
 use Rattle.rule_table.proofs.Bounds.{td_bounds}
 use Rattle.derivations.specs.Blocks.{blocks, given}
 use Rattle.derivations.proofs.Candidates.{one_step, cyclic_step, field_step, product_step, parker_step, rule_of_td}
