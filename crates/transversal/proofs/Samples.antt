@@ -36,7 +36,7 @@ product_of_rows : product_row 3 3 (1 ∷ 0 ∷ 1 ∷ []) (2 ∷ 1 ∷ 0 ∷ []) 
 unfolding product_row join_below
 product_of_rows = refl
 
-two_by_two : canonical (product_blocks 3 2 four_blocks 2 four_blocks) ≡ (0 ∷ 4 ∷ 8 ∷ []) ∷ (0 ∷ 5 ∷ 9 ∷ []) ∷ (0 ∷ 6 ∷ 10 ∷ []) ∷ (0 ∷ 7 ∷ 11 ∷ []) ∷ (1 ∷ 4 ∷ 9 ∷ []) ∷ (1 ∷ 5 ∷ 8 ∷ []) ∷ (1 ∷ 6 ∷ 11 ∷ []) ∷ (1 ∷ 7 ∷ 10 ∷ []) ∷ (2 ∷ 4 ∷ 10 ∷ []) ∷ (2 ∷ 5 ∷ 11 ∷ []) ∷ (2 ∷ 6 ∷ 8 ∷ []) ∷ (2 ∷ 7 ∷ 9 ∷ []) ∷ (3 ∷ 4 ∷ 11 ∷ []) ∷ (3 ∷ 5 ∷ 10 ∷ []) ∷ (3 ∷ 6 ∷ 9 ∷ []) ∷ (3 ∷ 7 ∷ 8 ∷ []) ∷ []
+two_by_two : canonical (product_blocks 3 2 2 four_blocks four_blocks) ≡ (0 ∷ 4 ∷ 8 ∷ []) ∷ (0 ∷ 5 ∷ 9 ∷ []) ∷ (0 ∷ 6 ∷ 10 ∷ []) ∷ (0 ∷ 7 ∷ 11 ∷ []) ∷ (1 ∷ 4 ∷ 9 ∷ []) ∷ (1 ∷ 5 ∷ 8 ∷ []) ∷ (1 ∷ 6 ∷ 11 ∷ []) ∷ (1 ∷ 7 ∷ 10 ∷ []) ∷ (2 ∷ 4 ∷ 10 ∷ []) ∷ (2 ∷ 5 ∷ 11 ∷ []) ∷ (2 ∷ 6 ∷ 8 ∷ []) ∷ (2 ∷ 7 ∷ 9 ∷ []) ∷ (3 ∷ 4 ∷ 11 ∷ []) ∷ (3 ∷ 5 ∷ 10 ∷ []) ∷ (3 ∷ 6 ∷ 9 ∷ []) ∷ (3 ∷ 7 ∷ 8 ∷ []) ∷ []
 unfolding canonical sort_by insert_by lex_le blocks_of_rows rows_of_blocks row_block place join_below product_row products_of product_rows
 two_by_two = refl
 

@@ -57,8 +57,8 @@ unfoldable pub product_rows : ℕ → ℕ → List (List ℕ) → List (List ℕ
 product_rows k b R S = flat_map (products_of k b S) R
 
 -- the product of a design of groups of a points and one of groups of b points
-abbrev pub product_blocks : ℕ → ℕ → List (List ℕ) → ℕ → List (List ℕ) → List (List ℕ)
-product_blocks k a first b second = blocks_of_rows k (a * b) (product_rows k b (rows_of_blocks a first) (rows_of_blocks b second))
+abbrev pub product_blocks : ℕ → ℕ → ℕ → List (List ℕ) → List (List ℕ) → List (List ℕ)
+product_blocks k a b first second = blocks_of_rows k (a * b) (product_rows k b (rows_of_blocks a first) (rows_of_blocks b second))
 
 -- ---- Parker's rows: four columns and 3 * m + 1 symbols, the integers modulo 2 * m + 1 and the infinite symbols 2 * m + i
 -- for i from 1 to m

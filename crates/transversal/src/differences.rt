@@ -4,6 +4,7 @@ ghost use Rattle.design_base.specs.Arrays.{blocks_of_rows, rows_of_blocks};
 ghost use Rattle.design_base.specs.Blocks.{IsTd};
 ghost use Rattle.design_base.specs.Canonical.{canonical};
 ghost use Rattle.incidence.specs.Packed.{size_of};
+ghost use Rattle.transversal.specs.Conditions.{CanUseParker};
 ghost use Rattle.transversal.specs.Constructions.{AllOfSize, base_rows, parker_blocks, quadruple, raised, row_of_block, turned, turned_below};
 
 use crate::blocks::{push_block, symbol, with_room};
@@ -18,10 +19,9 @@ const COLUMNS: u16 = 4;
 ///
 /// `m` is at least 1, and `3 * m + 1` is at most `TD_N_MAX`. The symbols are the integers modulo `2 * m + 1` and `m`
 /// infinite ones. The construction, by a quasi-difference matrix, is that of E. T. Parker, Orthogonal Latin squares (1959).
+/// The answer is `Memory` only for want of memory.
 pub fn parker(alloc: Global, m: u16, inner: &Rows) -> Result<Rows, Memory>
-    requires inner_points { 1 ≤ m }
-    requires points { 3 * m + 1 ≤ TD_N_MAX }
-    requires inner_design { IsTd inner.now 4 m }
+    requires { CanUseParker m inner.now }
     ensures blocks { IfOk result (λ rows. rows ≡ canonical (parker_blocks m inner.now)) }
     ensures design { IfOk result (λ rows. IsTd rows 4 (3 * m + 1)) }
 {

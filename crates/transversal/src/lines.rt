@@ -5,6 +5,7 @@ ghost use Rattle.design_base.specs.Arrays.{blocks_of_rows};
 ghost use Rattle.design_base.specs.Blocks.{IsTd};
 ghost use Rattle.design_base.specs.Canonical.{canonical};
 ghost use Rattle.incidence.specs.Packed.{size_of};
+ghost use Rattle.transversal.specs.Conditions.{CanBuildField};
 ghost use Rattle.transversal.specs.Constructions.{field_blocks, field_row, field_rows};
 
 use crate::blocks::{push_block, with_room};
@@ -18,13 +19,11 @@ use std::alloc::Global;
 ///
 /// `k` is from 2 to `TD_K_MAX` and at most one more than the order of the field, which is at most `TD_N_MAX`. The
 /// construction is that of R. C. Bose, On the application of the properties of Galois fields to the problem of construction
-/// of hyper-Graeco-Latin squares (1938): two lines of different slopes meet at one point.
+/// of hyper-Graeco-Latin squares (1938): two lines of different slopes meet at one point. The answer is `Memory` only for
+/// want of memory.
 #[tactic(auto, using(crate::proofs::Steps::steps))]
 pub fn field_td(alloc: Global, field: &Field, k: u16) -> Result<Rows, Memory>
-    requires two_groups { 2 ≤ k }
-    requires columns { k ≤ field.now + 1 }
-    requires groups { k ≤ TD_K_MAX }
-    requires points { field.now ≤ TD_N_MAX }
+    requires { CanBuildField k field.now }
     ensures blocks { IfOk result (λ rows. rows ≡ canonical (field_blocks k field.now)) }
     ensures design { IfOk result (λ rows. IsTd rows k field.now) }
 {

@@ -5,6 +5,7 @@ ghost use Rattle.design_base.specs.Arrays.{blocks_of_rows};
 ghost use Rattle.design_base.specs.Blocks.{IsTd};
 ghost use Rattle.design_base.specs.Canonical.{canonical};
 ghost use Rattle.incidence.specs.Packed.{size_of};
+ghost use Rattle.transversal.specs.Conditions.{CanBuildCyclic, CanBuildOne};
 ghost use Rattle.transversal.specs.Constructions.{cyclic_blocks, cyclic_row, cyclic_rows, one_blocks};
 
 use crate::blocks::{push_block, with_room};
@@ -14,11 +15,10 @@ use std::alloc::Global;
 
 /// The transversal design of `k` groups of one point: its only block holds all points.
 ///
-/// `k` is from 2 to `TD_K_MAX`.
+/// `k` is from 2 to `TD_K_MAX`. The answer is `Memory` only for want of memory.
 #[tactic(auto, using(crate::proofs::Steps::steps, crate::proofs::OneArray::row_of_zeros, crate::proofs::OneArray::block_of_zeros))]
 pub fn one(alloc: Global, k: u16) -> Result<Rows, Memory>
-    requires two_groups { 2 ≤ k }
-    requires groups { k ≤ TD_K_MAX }
+    requires { CanBuildOne k }
     ensures blocks { IfOk result (λ rows. rows ≡ canonical (one_blocks k)) }
     ensures design { IfOk result (λ rows. IsTd rows k 1) }
 {
@@ -61,14 +61,12 @@ fn push_cyclic(rows: &mut Rows, k: u16, n: u16) -> Result<(), Memory>
 
 /// The transversal design of the rows x, y and x + y modulo `n`, for x and y below `n`, cut to `k` columns.
 ///
-/// `k` is 2 or 3, and `n` is from 2 to `TD_N_MAX`. The rows are those of the addition table of the integers modulo `n`,
-/// a Latin square.
+/// `k` is 2 or 3, and `n` is from 1 to `TD_N_MAX`. The rows are those of the addition table of the integers modulo `n`,
+/// a Latin square (Colbourn and Dinitz, Handbook of Combinatorial Designs, III.1). The answer is `Memory` only for want of
+/// memory.
 #[tactic(auto, using(crate::proofs::Steps::steps))]
 pub fn cyclic(alloc: Global, k: u16, n: u16) -> Result<Rows, Memory>
-    requires two_groups { 2 ≤ k }
-    requires columns { k ≤ 3 }
-    requires two_points { 2 ≤ n }
-    requires points { n ≤ TD_N_MAX }
+    requires { CanBuildCyclic k n }
     ensures blocks { IfOk result (λ rows. rows ≡ canonical (cyclic_blocks k n)) }
     ensures design { IfOk result (λ rows. IsTd rows k n) }
 {

@@ -4,6 +4,7 @@ ghost use Rattle.design_base.specs.Arrays.{blocks_of_rows, rows_of_blocks};
 ghost use Rattle.design_base.specs.Blocks.{IsTd};
 ghost use Rattle.design_base.specs.Canonical.{canonical};
 ghost use Rattle.incidence.specs.Packed.{size_of};
+ghost use Rattle.transversal.specs.Conditions.{CanMultiply};
 ghost use Rattle.transversal.specs.Constructions.{AllOfSize, product_blocks, product_row, product_rows, products_of, row_of_block};
 
 use crate::blocks::{push_block, symbol, with_room};
@@ -15,28 +16,22 @@ use std::alloc::Global;
 /// the first and each row s of the second the entries r_j * b + s_j.
 ///
 /// `k` is from 2 to `TD_K_MAX`, `a` and `b` are at least 1 and their product is at most `TD_N_MAX`. The construction is
-/// that of H. F. MacNeish, Euler squares (1922).
-#[tactic(auto, using(crate::proofs::Steps::steps, crate::proofs::Designs::sizes_of_td))]
+/// that of H. F. MacNeish, Euler squares (1922). The answer is `Memory` only for want of memory.
+#[tactic(auto, using(crate::proofs::Steps::steps))]
 pub fn product(
     alloc: Global,
     k: u16,
     a: u16,
-    first: &Rows,
     b: u16,
+    first: &Rows,
     second: &Rows,
 ) -> Result<Rows, Memory>
-    requires two_groups { 2 ≤ k }
-    requires groups { k ≤ TD_K_MAX }
-    requires first_points { 1 ≤ a }
-    requires second_points { 1 ≤ b }
-    requires points { a * b ≤ TD_N_MAX }
-    requires first_design { IsTd first.now k a }
-    requires second_design { IsTd second.now k b }
-    ensures blocks { IfOk result (λ rows. rows ≡ canonical (product_blocks k a first.now b second.now)) }
+    requires { CanMultiply k a b first.now second.now }
+    ensures blocks { IfOk result (λ rows. rows ≡ canonical (product_blocks k a b first.now second.now)) }
     ensures design { IfOk result (λ rows. IsTd rows k (a * b)) }
 {
     let mut rows = with_room(alloc, k, a * b)?;
-    push_products(&mut rows, k, a, first, b, second)?;
+    push_products(&mut rows, k, a, b, first, second)?;
     let blocks = rows.canonical()?;
     Ok(blocks)
 }
@@ -47,8 +42,8 @@ fn push_products(
     rows: &mut Rows,
     k: u16,
     a: u16,
-    first: &Rows,
     b: u16,
+    first: &Rows,
     second: &Rows,
 ) -> Result<(), Memory>
     requires groups { k ≤ TD_K_MAX }
@@ -61,7 +56,7 @@ fn push_products(
     ensures ok { OnOk result (rows.new ≡ rows.old ++ blocks_of_rows k (a * b) (product_rows k b (rows_of_blocks a first.now) (rows_of_blocks b second.now))) }
 {
     for block in first.iter() {
-        push_products_of(rows, k, a, block, b, second)?;
+        push_products_of(rows, k, a, b, block, second)?;
     }
     Ok(())
 }
@@ -72,8 +67,8 @@ fn push_products_of(
     rows: &mut Rows,
     k: u16,
     a: u16,
-    first: &[u16],
     b: u16,
+    first: &[u16],
     second: &Rows,
 ) -> Result<(), Memory>
     requires groups { k ≤ TD_K_MAX }
@@ -87,7 +82,7 @@ fn push_products_of(
     ensures size { OnOk result (size_of rows.new ≤ size_of rows.old + (TD_K_MAX + 1) * length second.now) }
 {
     for block in second.iter() {
-        push_product(rows, k, a, first, b, block)?;
+        push_product(rows, k, a, b, first, block)?;
     }
     Ok(())
 }
@@ -98,8 +93,8 @@ fn push_product(
     rows: &mut Rows,
     k: u16,
     a: u16,
-    first: &[u16],
     b: u16,
+    first: &[u16],
     second: &[u16],
 ) -> Result<(), Memory>
     requires groups { k ≤ TD_K_MAX }

@@ -36,7 +36,7 @@ fn compound_orders(rt: HostRuntime) -> Result<(), Fail> {
     assert_blocks(&rt, &three, 9, &[0, 3, 6, 9], &[0, 4, 7, 10]);
     assert_blocks(
         &rt,
-        &product(alloc, 4, 3, &three, 4, &four)?,
+        &product(alloc, 4, 3, 4, &three, &four)?,
         144,
         &[0, 12, 24, 36],
         &[0, 13, 25, 37],

@@ -16,27 +16,28 @@ use Rattle.wilson.proofs.Apart.{first_apart-below, first_apart-differs}
 use Rattle.wilson.proofs.HoledArray.{holed_is, holed_twice_is}
 use Rattle.wilson.proofs.OneGroup.{wilson_one_is_oa}
 use Rattle.wilson.proofs.TwoGroups.{wilson_two_is_oa}
+use Rattle.wilson.specs.Conditions.{CanTruncateOnce, CanTruncateTwice}
 use Rattle.wilson.specs.Holes.{first_apart, holed, holed_twice, renumbered_row, renumbered_row_twice}
 use Rattle.wilson.specs.Truncations.{wilson_one_blocks, wilson_one_rows, wilson_two_blocks, wilson_two_rows}
 
-pub wilson_one_design : (k m t u : ℕ) (master small large rest B : List (List ℕ)) → 2 ≤ k → 1 ≤ m → 1 ≤ u → u ≤ t →
-    IsTd master (k + 1) t → IsTd small k m → IsTd large k (m + 1) → IsTd rest k u → B ≡ canonical (wilson_one_blocks k m t u master small large rest) → IsTd B k (m * t + u)
-wilson_one_design k m t u master small large rest B two lm lu fits td_master td_small td_large td_rest is =
-    rw is (td_of_oa k (m * t + u) (wilson_one_rows k m t u (rows_of_blocks t master) (rows_of_blocks m small) (rows_of_blocks (m + 1) large) (rows_of_blocks u rest)) (omega arith)
-    (wilson_one_is_oa k m t u (rows_of_blocks t master) (rows_of_blocks m small) (rows_of_blocks (m + 1) large) (rows_of_blocks u rest)
-    (oa_from_td (k + 1) t master (omega arith) td_master (omega arith)) (oa_from_td k m small (omega arith) td_small two)
-    (oa_from_td k (m + 1) large (omega arith) td_large two) (oa_from_td k u rest (omega arith) td_rest two) (omega arith) fits two))
+-- ---- the stated lists, wherever the construction has what it needs
+pub wilson_one_design : (k m t u : ℕ) (M A E U : List (List ℕ)) → CanTruncateOnce k m t u M A E U → IsTd (canonical (wilson_one_blocks k m t u M A E U)) k (m * t + u)
+wilson_one_design k m t u M A E U can =
+    td_of_oa k (m * t + u) (wilson_one_rows k m t u (rows_of_blocks t M) (rows_of_blocks m A) (rows_of_blocks (m + 1) E) (rows_of_blocks u U)) (omega (arith, can.some_kept))
+    (wilson_one_is_oa k m t u (rows_of_blocks t M) (rows_of_blocks m A) (rows_of_blocks (m + 1) E) (rows_of_blocks u U)
+    (oa_from_td (k + 1) t M (omega (arith, can.some_kept, can.kept)) can.master (omega (arith, can.two_groups))) (oa_from_td k m A can.one_symbol can.small can.two_groups)
+    (oa_from_td k (m + 1) E (omega arith) can.large can.two_groups) (oa_from_td k u U can.some_kept can.rest can.two_groups) can.one_symbol can.kept can.two_groups)
 
-pub wilson_two_design : (k m t u w : ℕ) (master td0 td1 td2 first second B : List (List ℕ)) → 2 ≤ k → 1 ≤ m → k ≤ m + 2 → 1 ≤ w → w ≤ u → u ≤ t →
-    IsTd master (k + 2) t → IsTd td0 k m → IsTd td1 k (m + 1) → IsTd td2 k (m + 2) → IsTd first k u → IsTd second k w →
-    B ≡ canonical (wilson_two_blocks k m t u w master td0 td1 td2 first second) → IsTd B k (m * t + u + w)
-wilson_two_design k m t u w master td0 td1 td2 first second B two lm few lw le fits td_master is0 is1 is2 td_first td_second is =
-    rw is (td_of_oa k (m * t + u + w)
-    (wilson_two_rows k m t u w (rows_of_blocks t master) (rows_of_blocks m td0) (rows_of_blocks (m + 1) td1) (rows_of_blocks (m + 2) td2) (rows_of_blocks u first) (rows_of_blocks w second)) (omega arith)
-    (wilson_two_is_oa k m t u w (rows_of_blocks t master) (rows_of_blocks m td0) (rows_of_blocks (m + 1) td1) (rows_of_blocks (m + 2) td2) (rows_of_blocks u first) (rows_of_blocks w second)
-    two (omega arith) few fits (omega arith)
-    (oa_from_td (k + 2) t master (omega arith) td_master (omega arith)) (oa_from_td k m td0 (omega arith) is0 two) (oa_from_td k (m + 1) td1 (omega arith) is1 two)
-    (oa_from_td k (m + 2) td2 (omega arith) is2 two) (oa_from_td k u first (omega arith) td_first two) (oa_from_td k w second (omega arith) td_second two)))
+pub wilson_two_design : (k m t u w : ℕ) (M A E F U W : List (List ℕ)) → CanTruncateTwice k m t u w M A E F U W →
+    IsTd (canonical (wilson_two_blocks k m t u w M A E F U W)) k (m * t + u + w)
+wilson_two_design k m t u w M A E F U W can =
+    td_of_oa k (m * t + u + w)
+    (wilson_two_rows k m t u w (rows_of_blocks t M) (rows_of_blocks m A) (rows_of_blocks (m + 1) E) (rows_of_blocks (m + 2) F) (rows_of_blocks u U) (rows_of_blocks w W)) (omega (arith, can.first_some_kept))
+    (wilson_two_is_oa k m t u w (rows_of_blocks t M) (rows_of_blocks m A) (rows_of_blocks (m + 1) E) (rows_of_blocks (m + 2) F) (rows_of_blocks u U) (rows_of_blocks w W)
+    can.two_groups can.one_symbol can.few_groups can.first_kept can.second_kept
+    (oa_from_td (k + 2) t M (omega (arith, can.first_some_kept, can.first_kept)) can.master (omega (arith, can.two_groups))) (oa_from_td k m A can.one_symbol can.small can.two_groups)
+    (oa_from_td k (m + 1) E (omega arith) can.large can.two_groups) (oa_from_td k (m + 2) F (omega arith) can.larger can.two_groups)
+    (oa_from_td k u U can.first_some_kept can.first_rest can.two_groups) (oa_from_td k w W can.second_some_kept can.second_rest can.two_groups))
 
 -- how many blocks a design has at most
 pub few_blocks : (k n : ℕ) (B : List (List ℕ)) → 2 ≤ k → 1 ≤ n → n ≤ TD_N_MAX → IsTd B k n → length B ≤ TD_N_MAX * TD_N_MAX

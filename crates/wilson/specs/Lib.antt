@@ -1,3 +1,4 @@
+pub mod Conditions
 pub mod Disjoint
 pub mod Holes
 pub mod Truncations

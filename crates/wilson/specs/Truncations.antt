@@ -56,7 +56,7 @@ wilson_two_rows k m t u w M A E F U W =
 
 -- from a master with k + 2 groups of t points, and designs with k groups of m, m + 1, m + 2, u and w points
 abbrev pub wilson_two_blocks : ℕ → ℕ → ℕ → ℕ → ℕ → List (List ℕ) → List (List ℕ) → List (List ℕ) → List (List ℕ) → List (List ℕ) → List (List ℕ) → List (List ℕ)
-wilson_two_blocks k m t u w master td0 td1 td2 first second =
+wilson_two_blocks k m t u w master small large larger first second =
     blocks_of_rows k (m * t + u + w)
-    (wilson_two_rows k m t u w (rows_of_blocks t master) (rows_of_blocks m td0) (rows_of_blocks (m + 1) td1) (rows_of_blocks (m + 2) td2)
+    (wilson_two_rows k m t u w (rows_of_blocks t master) (rows_of_blocks m small) (rows_of_blocks (m + 1) large) (rows_of_blocks (m + 2) larger)
     (rows_of_blocks u first) (rows_of_blocks w second))

@@ -148,22 +148,22 @@ fn push_fill_two(
     t: u16,
     u: u16,
     w: u16,
-    td0: &Rows,
-    td1: &Rows,
-    td2: &Rows,
+    small: &Rows,
+    large: &Rows,
+    larger: &Rows,
     master: &[u16],
 ) -> Result<(), Memory>
     requires groups { k ≤ TD_K_MAX }
     requires points { m * t + u + w ≤ TD_N_MAX }
-    requires rows0 { All (IsRow k m) td0.now }
-    requires rows1 { All (IsRow k (m + 1)) td1.now }
-    requires rows2 { All (IsRow k (m + 2)) td2.now }
-    requires few0 { length td0.now ≤ TD_N_MAX * TD_N_MAX }
-    requires few1 { length td1.now ≤ TD_N_MAX * TD_N_MAX }
-    requires few2 { length td2.now ≤ TD_N_MAX * TD_N_MAX }
+    requires small_rows { All (IsRow k m) small.now }
+    requires large_rows { All (IsRow k (m + 1)) large.now }
+    requires larger_rows { All (IsRow k (m + 2)) larger.now }
+    requires few_small { length small.now ≤ TD_N_MAX * TD_N_MAX }
+    requires few_large { length large.now ≤ TD_N_MAX * TD_N_MAX }
+    requires few_larger { length larger.now ≤ TD_N_MAX * TD_N_MAX }
     requires master_row { IsRow (k + 2) t master.now }
     requires room { size_of rows.old + (TD_K_MAX + 1) * TD_N_MAX * TD_N_MAX < PACKED_MAX }
-    ensures ok { OnOk result (rows.new ≡ rows.old ++ blocks_of_rows k (m * t + u + w) (fill_two k m t u w td0.now td1.now td2.now master.now)) }
+    ensures ok { OnOk result (rows.new ≡ rows.old ++ blocks_of_rows k (m * t + u + w) (fill_two k m t u w small.now large.now larger.now master.now)) }
     ensures size { OnOk result (size_of rows.new ≤ size_of rows.old + (TD_K_MAX + 1) * TD_N_MAX * TD_N_MAX) }
 {
     let n = m * t + u + w;
@@ -171,14 +171,14 @@ fn push_fill_two(
     let z = master[usize::from(k) + 1];
     if y < u {
         if z < w {
-            push_filled(rows, k, n, m, &[m * t + y, m * t + u + z], master, td2)
+            push_filled(rows, k, n, m, &[m * t + y, m * t + u + z], master, larger)
         } else {
-            push_filled(rows, k, n, m, &[m * t + y], master, td1)
+            push_filled(rows, k, n, m, &[m * t + y], master, large)
         }
     } else if z < w {
-        push_filled(rows, k, n, m, &[m * t + u + z], master, td1)
+        push_filled(rows, k, n, m, &[m * t + u + z], master, large)
     } else {
-        push_filled(rows, k, n, m, &[], master, td0)
+        push_filled(rows, k, n, m, &[], master, small)
     }
 }
 
@@ -191,26 +191,26 @@ pub fn push_fills_two(
     t: u16,
     u: u16,
     w: u16,
-    td0: &Rows,
-    td1: &Rows,
-    td2: &Rows,
+    small: &Rows,
+    large: &Rows,
+    larger: &Rows,
     master: &Rows,
 ) -> Result<(), Memory>
     requires groups { k ≤ TD_K_MAX }
     requires points { m * t + u + w ≤ TD_N_MAX }
-    requires rows0 { All (IsRow k m) td0.now }
-    requires rows1 { All (IsRow k (m + 1)) td1.now }
-    requires rows2 { All (IsRow k (m + 2)) td2.now }
-    requires few0 { length td0.now ≤ TD_N_MAX * TD_N_MAX }
-    requires few1 { length td1.now ≤ TD_N_MAX * TD_N_MAX }
-    requires few2 { length td2.now ≤ TD_N_MAX * TD_N_MAX }
+    requires small_rows { All (IsRow k m) small.now }
+    requires large_rows { All (IsRow k (m + 1)) large.now }
+    requires larger_rows { All (IsRow k (m + 2)) larger.now }
+    requires few_small { length small.now ≤ TD_N_MAX * TD_N_MAX }
+    requires few_large { length large.now ≤ TD_N_MAX * TD_N_MAX }
+    requires few_larger { length larger.now ≤ TD_N_MAX * TD_N_MAX }
     requires master_rows { All (IsRow (k + 2) t) master.now }
     requires room { size_of rows.old + (TD_K_MAX + 1) * TD_N_MAX * TD_N_MAX * length master.now < PACKED_MAX }
-    ensures ok { OnOk result (rows.new ≡ rows.old ++ blocks_of_rows k (m * t + u + w) (flat_map (fill_two k m t u w td0.now td1.now td2.now) master.now)) }
+    ensures ok { OnOk result (rows.new ≡ rows.old ++ blocks_of_rows k (m * t + u + w) (flat_map (fill_two k m t u w small.now large.now larger.now) master.now)) }
     ensures size { OnOk result (size_of rows.new ≤ size_of rows.old + (TD_K_MAX + 1) * TD_N_MAX * TD_N_MAX * length master.now) }
 {
     for row in master.iter() {
-        push_fill_two(rows, k, m, t, u, w, td0, td1, td2, row)?;
+        push_fill_two(rows, k, m, t, u, w, small, large, larger, row)?;
     }
     Ok(())
 }

@@ -72,12 +72,12 @@ fn two_truncated_groups(rt: HostRuntime) -> Result<(), Fail> {
     let alloc = rt.alloc();
     let fields = Fields::open(alloc)?;
     let master = field_td(alloc, fields.field(7).ok_or("no field")?, 6)?;
-    let td0 = field_td(alloc, fields.field(3).ok_or("no field")?, 4)?;
-    let td1 = field_td(alloc, fields.field(4).ok_or("no field")?, 4)?;
-    let td2 = field_td(alloc, fields.field(5).ok_or("no field")?, 4)?;
+    let small = field_td(alloc, fields.field(3).ok_or("no field")?, 4)?;
+    let large = field_td(alloc, fields.field(4).ok_or("no field")?, 4)?;
+    let larger = field_td(alloc, fields.field(5).ok_or("no field")?, 4)?;
     let point = one(alloc, 4)?;
     let rows = truncate_two(
-        alloc, 4, 3, 7, 4, 1, &master, &td0, &td1, &td2, &td1, &point,
+        alloc, 4, 3, 7, 4, 1, &master, &small, &large, &larger, &large, &point,
     )?;
     assert_blocks(&rt, &rows, 676, &[0, 26, 54, 78], &[0, 27, 73, 79]);
     Ok(())
@@ -89,12 +89,12 @@ fn two_groups_of_four_points(rt: HostRuntime) -> Result<(), Fail> {
     let fields = Fields::open(alloc)?;
     let four = fields.field(4).ok_or("no field")?;
     let master = field_td(alloc, four, 5)?;
-    let td0 = field_td(alloc, fields.field(2).ok_or("no field")?, 3)?;
-    let td1 = field_td(alloc, fields.field(3).ok_or("no field")?, 3)?;
-    let td2 = field_td(alloc, four, 3)?;
+    let small = field_td(alloc, fields.field(2).ok_or("no field")?, 3)?;
+    let large = field_td(alloc, fields.field(3).ok_or("no field")?, 3)?;
+    let larger = field_td(alloc, four, 3)?;
     let point = one(alloc, 3)?;
     let rows = truncate_two(
-        alloc, 3, 2, 4, 2, 1, &master, &td0, &td1, &td2, &td0, &point,
+        alloc, 3, 2, 4, 2, 1, &master, &small, &large, &larger, &small, &point,
     )?;
     assert_blocks(&rt, &rows, 121, &[0, 11, 32], &[0, 12, 22]);
     Ok(())

@@ -10,8 +10,8 @@ use Rattle.wilson.specs.Truncations.{fill_two}
 
 abbrev pub invariant-loop-row : goal.invariant-loop-row
 invariant-loop-row l = record {
-  blocks : l.rows ++ blocks_of_rows l.k (l.m * l.t + l.u + l.w) (flat_map (fill_two l.k l.m l.t l.u l.w l.td0 l.td1 l.td2) l.row-iterator)
-      ≡ l.fn.rows ++ blocks_of_rows l.k (l.m * l.t + l.u + l.w) (flat_map (fill_two l.k l.m l.t l.u l.w l.td0 l.td1 l.td2) l.master);
+  blocks : l.rows ++ blocks_of_rows l.k (l.m * l.t + l.u + l.w) (flat_map (fill_two l.k l.m l.t l.u l.w l.small l.large l.larger) l.row-iterator)
+      ≡ l.fn.rows ++ blocks_of_rows l.k (l.m * l.t + l.u + l.w) (flat_map (fill_two l.k l.m l.t l.u l.w l.small l.large l.larger) l.master);
   left : All (IsRow (l.k + 2) l.t) l.row-iterator;
   room : size_of l.rows + (TD_K_MAX + 1) * TD_N_MAX * TD_N_MAX * length l.row-iterator ≤ size_of l.fn.rows + (TD_K_MAX + 1) * TD_N_MAX * TD_N_MAX * length l.master;
 }
