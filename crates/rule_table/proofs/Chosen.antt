@@ -1,49 +1,21 @@
--- A candidate passes the test of candidates; what is known of the step of a Yes verdict.
-use Rattle.std.proofs.Common.{◌≡◌, ℕ, ◌<◌, ◌≤◌, Bool, true, false, ◌&&◌, List, [], ◌∷◌, ◌++◌, arith, refl, map, sym, subst, ◌∙◌}
+-- What is known of the step of a Yes verdict.
+use Rattle.std.proofs.Common.{◌≡◌, ℕ, ◌<◌, Bool, true, false, List, [], ◌∷◌, refl, sym, subst, ◌∙◌}
 use Rattle.std.specs.Prelude.{Option, Some, None}
-use Rattle.std.specs.List.{AllByRecursion, list_all}
-use Rattle.std.proofs.lemmas.Bool.Decides.{nat_tests}
-use Rattle.counting.specs.Search.{upward, first_in, each_passes}
+use Rattle.std.specs.List.{AllByRecursion}
+use Rattle.counting.specs.Search.{first_in, each_passes}
 use Rattle.design_base.specs.declared.query.Query.{Query}
 use Rattle.design_base.specs.declared.verdict.Verdict.{Verdict}
 use Rattle.design_base.specs.declared.verdict.Verdict.TheVariants.{Yes, No}
 use Rattle.design_base.specs.declared.verdict.Criterion.{Criterion}
-use Rattle.design_base.specs.declared.rule.Rule.{Rule}
-use Rattle.design_base.specs.Limits.{in_bounds, within}
-use Rattle.design_base.specs.Rules.{rules}
-use Rattle.design_base.specs.Steps.{Step, step_with}
+use Rattle.design_base.specs.Limits.{in_bounds}
+use Rattle.design_base.specs.Steps.{Step}
 use Rattle.criteria.specs.Criteria.{criterion_of}
-use Rattle.rule_table.specs.Terms.{Terms, when◌asks◌, from◌to◌take◌, choices, allows}
-use Rattle.rule_table.specs.Table.{terms}
-use Rattle.rule_table.specs.Candidates.{candidates, premises, four, is_candidate}
+use Rattle.rule_table.specs.Candidates.{candidates, premises, is_candidate}
 use Rattle.rule_table.specs.Rank.{rank}
 use Rattle.rule_table.specs.Verdicts.{judged, verdict, first_step, is_yes, yes_or_unknown}
-use Rattle.rule_table.proofs.Ranks.{falls}
-use Rattle.rule_table.proofs.Each.{each-both, each-weaker, each-map, each-flat_map, each-upward, guarded}
-use Rattle.rule_table.proofs.Unfolds.{IsBelow, IsGood, choices_good, four_of, candidates_fall, verdict_unfolds}
-
--- whatever stands behind the parameters, they are allowed
-abbrev IsAllowed : Terms → List ℕ → Type 0
-IsAllowed l xs = (zs : List ℕ) → allows l (xs ++ zs) ≡ true
-
-choices_allowed : (l : Terms) → AllByRecursion (IsAllowed l) (choices l)
-unfolding choices allows
-choices_allowed (when c asks ps) =
-    guarded (IsAllowed (when c asks ps)) (c && list_all in_bounds ps) [] (λ e zs. e)
-choices_allowed (from low to high take f) =
-    each-flat_map (IsAllowed (from low to high take f)) (λ x. map (λ xs. x ∷ xs) (choices (f x))) (upward low high)
-    (each-upward (λ x. AllByRecursion (IsAllowed (from low to high take f)) (map (λ xs. x ∷ xs) (choices (f x)))) low high
-    (λ x l u. each-map (IsAllowed (from low to high take f)) (λ xs. x ∷ xs) (choices (f x))
-    (each-weaker (IsAllowed (f x)) (λ xs. IsAllowed (from low to high take f) (x ∷ xs)) (choices (f x))
-    (λ xs g zs. joined (within low high x) (allows (f x) (xs ++ zs)) (in_range low high x l u) (g zs))
-    (choices_allowed (f x)))))
-  where
-    in_range : (low high x : ℕ) → low ≤ x → x ≤ high → within low high x ≡ true
-    in_range low high x l u = grind (arith, nat_tests)
-
-    joined : (a b : Bool) → a ≡ true → b ≡ true → (a && b) ≡ true
-    joined true b e f = f
-    joined false b e f = e
+use Rattle.rule_table.proofs.Passing.{IsBelow, candidates_are, candidates_fall}
+use Rattle.rule_table.proofs.Each.{each-both, each-weaker}
+use Rattle.rule_table.proofs.Unfolds.{verdict_unfolds}
 
 module _ {X : Type 0} where
   -- what is known of each element is known of the first that passes; and it passes
@@ -66,23 +38,6 @@ module _ {X : Type 0} where
           → ◌≡◌ {A = Bool} (elim b [ true ↦ each_passes test xs | false ↦ false ]) true → (test x ≡ true) × AllByRecursion (λ x. test x ≡ true) xs
       split true t r e = (sym t, r e)
       split false t r e = cc
-
--- each candidate passes the test of candidates
-pub candidates_are : (q : Query) → in_bounds q ≡ true → AllByRecursion (λ s. is_candidate q s ≡ true) (candidates q)
-unfolding candidates is_candidate
-candidates_are q b = each-flat_map (λ s. allows (terms q s.rule) (four s) ≡ true) (λ r. map (step_with r) (choices (terms q r))) rules (each_rule rules)
-  where
-    of_rule : (r : Rule) → AllByRecursion (λ s. allows (terms q s.rule) (four s) ≡ true) (map (step_with r) (choices (terms q r)))
-    of_rule r =
-        each-map (λ s. allows (terms q s.rule) (four s) ≡ true) (step_with r) (choices (terms q r))
-        (each-weaker (λ xs. IsGood 4 (rank q) (terms q r) xs × IsAllowed (terms q r) xs) (λ xs. allows (terms q r) (four (step_with r xs)) ≡ true) (choices (terms q r))
-        (λ xs g. let f = four_of r xs g.0.0 in subst (λ ys. allows (terms q r) ys ≡ true) (sym f.1) (g.1 f.0))
-        (each-both (IsGood 4 (rank q) (terms q r)) (IsAllowed (terms q r)) (choices (terms q r))
-        (choices_good 4 (rank q) (terms q r) (falls q b r)) (choices_allowed (terms q r))))
-
-    each_rule : (rs : List Rule) → AllByRecursion (λ r. AllByRecursion (λ s. allows (terms q s.rule) (four s) ≡ true) (map (step_with r) (choices (terms q r)))) rs
-    each_rule [] = tt
-    each_rule (r ∷ rs) = (of_rule r, each_rule rs)
 
 -- in bounds, of a rank below r, and with a Yes verdict
 abbrev pub IsProved : ℕ → Query → Type 0

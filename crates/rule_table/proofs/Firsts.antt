@@ -6,8 +6,9 @@ use Rattle.std.proofs.lemmas.List.{map-append, append-nil, drop_all}
 use Rattle.std.proofs.lemmas.Simd.{map-map}
 use Rattle.counting.specs.Search.{upward}
 use Rattle.design_base.specs.declared.query.Query.{Query}
+use Rattle.design_base.specs.declared.rule.Kind.{Kind}
 use Rattle.design_base.specs.declared.rule.Rule.{Rule}
-use Rattle.design_base.specs.Rules.{rules, number_of_rule}
+use Rattle.design_base.specs.Rules.{rules, number_of_rule, serves, kind_of}
 use Rattle.design_base.specs.Limits.{in_bounds}
 use Rattle.design_base.specs.Steps.{Step, step, step_with}
 use Rattle.field_tables.proofs.Upward.{upward-cons, upward-none}
@@ -17,7 +18,8 @@ use Rattle.rule_table.specs.declared.next.Next.TheVariants.{Parameter, Premises,
 use Rattle.rule_table.specs.Terms.{Terms, when◌asks◌, from◌to◌take◌, choices}
 use Rattle.rule_table.specs.Table.{terms}
 use Rattle.rule_table.specs.Nexts.{IsNext}
-use Rattle.rule_table.specs.Walks.{head, terms_at, choices_after, steps_under, steps_between, steps_behind, steps_of, steps_after, rules_after}
+use Rattle.rule_table.specs.Candidates.{serving}
+use Rattle.rule_table.specs.Walks.{head, terms_at, choices_after, steps_under, steps_between, steps_behind, steps_by, steps_of, steps_after, rules_after}
 
 -- what the terms are, by what they say first
 
@@ -157,18 +159,38 @@ module _ (q : Query) (r : Rule) (xs : List ℕ) where
 
 -- the candidates of a rule and of those behind it
 
-rules-front : (q : Query) (i : ℕ) (r : Rule) → drop i rules ≡ r ∷ drop (i + 1) rules → steps_of q (drop i rules) ≡ steps_under q r [] ++ steps_of q (drop (i + 1) rules)
-unfolding steps_of steps_under
-rules-front q i r at =
-    ap (λ rs. steps_of q rs) at
-    ∙ (λ j. map (step_with r) (choices (sym (terms_at-none (terms q r)) j)) ++ steps_of q (drop (i + 1) rules))
+module _ (q : Query) (r : Rule) where
+  pub by_served : (kind : Kind) (served : Bool) (o : Option Step) → kind ≡ kind_of q → served ≡ serves kind r → served ≡ true → o ≡ head (steps_under q r [])
+      → o ≡ head (steps_by q r)
+  unfolding steps_by steps_under
+  by_served kind served o d k e h =
+      h ∙ ap (λ t. head (map (step_with r) (choices t))) (terms_at-none (terms q r))
+      ∙ ap (λ b. head (if b then map (step_with r) (choices (terms q r)) else [])) (sym e ∙ k ∙ ap (λ kind. serves kind r) d)
+
+  pub by_other : (kind : Kind) (served : Bool) → kind ≡ kind_of q → served ≡ serves kind r → served ≡ false → None ≡ head (steps_by q r)
+  unfolding steps_by
+  by_other kind served d k e = ap (λ b. head (if b then map (step_with r) (choices (terms q r)) else [])) (sym e ∙ k ∙ ap (λ kind. serves kind r) d)
+
+pub rules-cons : (q : Query) (r : Rule) (rs : List Rule) → steps_of q (r ∷ rs) ≡ steps_by q r ++ steps_of q rs
+unfolding steps_of steps_by
+rules-cons q r rs = by (serves (kind_of q) r)
+  where
+    of : Rule → List Step
+    of r = map (step_with r) (choices (terms q r))
+
+    by : (b : Bool) → flat_map of (if b then r ∷ serving q rs else serving q rs) ≡ (if b then of r else []) ++ flat_map of (serving q rs)
+    by true = refl
+    by false = refl
+
+rules-front : (q : Query) (i : ℕ) (r : Rule) → drop i rules ≡ r ∷ drop (i + 1) rules → steps_of q (drop i rules) ≡ steps_by q r ++ steps_of q (drop (i + 1) rules)
+rules-front q i r at = ap (λ rs. steps_of q rs) at ∙ rules-cons q r (drop (i + 1) rules)
 
 module _ (q : Query) (i : ℕ) (r : Rule) (o : Option Step) (h : o ≡ head (steps_of q (drop i rules))) (at : drop i rules ≡ r ∷ drop (i + 1) rules) where
-  pub rules_found : (s : Step) → Some s ≡ head (steps_under q r []) → Some s ≡ o
-  rules_found s e = sym (h ∙ ap head (rules-front q i r at) ∙ head-found (steps_under q r []) (steps_of q (drop (i + 1) rules)) s (sym e))
+  pub rules_found : (s : Step) → Some s ≡ head (steps_by q r) → Some s ≡ o
+  rules_found s e = sym (h ∙ ap head (rules-front q i r at) ∙ head-found (steps_by q r) (steps_of q (drop (i + 1) rules)) s (sym e))
 
-  pub rules_passed : None ≡ head (steps_under q r []) → o ≡ head (steps_of q (drop (i + 1) rules))
-  rules_passed e = h ∙ ap head (rules-front q i r at) ∙ head-passed (steps_under q r []) (steps_of q (drop (i + 1) rules)) (sym e)
+  pub rules_passed : None ≡ head (steps_by q r) → o ≡ head (steps_of q (drop (i + 1) rules))
+  rules_passed e = h ∙ ap head (rules-front q i r at) ∙ head-passed (steps_by q r) (steps_of q (drop (i + 1) rules)) (sym e)
 
 pub rules_over : (q : Query) (i : ℕ) (o : Option Step) → o ≡ head (steps_of q (drop i rules)) → length rules ≤ i → None ≡ o
 unfolding steps_of
@@ -192,6 +214,8 @@ pub ruleset first_under_laws = (under_parameter, under_inside, under_outside, un
 pub ruleset first_between_laws = (between_found, between_passed, between_over)
 
 pub ruleset first_behind_laws = (behind_found, behind_passed, behind_none, behind_over)
+
+pub ruleset first_of_rule_laws = (by_served, by_other)
 
 pub ruleset first_of_rules_laws = (rules_found, rules_passed, rules_over)
 

@@ -9,17 +9,20 @@ use Rattle.counting.proofs.Ranges.{get_or-list_below}
 use Rattle.design_base.specs.declared.query.Query.{Query}
 use Rattle.design_base.specs.declared.rule.Rule.{Rule}
 use Rattle.design_base.specs.declared.rule.Rule.TheVariants.{TdOne}
-use Rattle.design_base.specs.Rules.{rules, number_of_rule, title}
+use Rattle.design_base.specs.Rules.{rules, number_of_rule, serves, kind_of, title}
 use Rattle.design_base.specs.Limits.{in_bounds}
 use Rattle.design_base.specs.Steps.{Step, step_with}
 use Rattle.field_tables.proofs.Upward.{upward-cons, upward-none}
 use Rattle.rule_table.specs.Terms.{Terms, when◌asks◌, from◌to◌take◌, choices}
 use Rattle.rule_table.specs.Table.{terms}
 use Rattle.rule_table.specs.Candidates.{candidates, four}
-use Rattle.rule_table.specs.Walks.{head, choices_after, steps_behind, steps_of, steps_after, steps_from, rules_after}
-use Rattle.rule_table.proofs.Depths.{HasDepth, depth, few_parameters}
-use Rattle.rule_table.proofs.Firsts.{terms_at-none}
-use Rattle.rule_table.proofs.Unfolds.{four_of}
+use Rattle.rule_table.specs.Rank.{rank}
+use Rattle.rule_table.specs.Walks.{head, choices_after, steps_behind, steps_by, steps_of, steps_after, steps_from, rules_after}
+use Rattle.rule_table.proofs.Each.{each-passing}
+use Rattle.rule_table.proofs.Grounded.{IsGrounded, few_parameters}
+use Rattle.rule_table.proofs.Passing.{four_of}
+use Rattle.rule_table.proofs.Rules.{grounded}
+use Rattle.rule_table.proofs.Firsts.{rules-cons, terms_at-none}
 
 -- each has n parameters, and those after it are the choices behind it
 abbrev Follow : ℕ → Terms → List (List ℕ) → Type 0
@@ -44,25 +47,25 @@ module _ (n low high : ℕ) (f : ℕ → Terms) where
       subst (λ us. Follow (suc n) (from low to high take f) (all_of f us)) (sym (upward-cons x high (omega arith)))
       (follow-joined x (choices (f x)) (h x) (follow-upward m (x + 1) (omega arith) h))
 
-choices_follow : (n : ℕ) (t : Terms) → HasDepth n t → Follow n t (choices t)
+choices_follow : (n r : ℕ) (t : Terms) → IsGrounded n r t → Follow n t (choices t)
 unfolding choices choices_after
-choices_follow n (when c asks ps) d = by c (list_all in_bounds ps) d
+choices_follow n r (when c asks ps) g = by c (list_all in_bounds ps) (λ h k. (g h (each-passing in_bounds ps k)).last)
   where
-    by : (a b : Bool) → (a ≡ true → n ≡ 0) → Follow n (when c asks ps) (if a && b then [] ∷ [] else [])
-    by true true d = (sym (d refl), λ zs. refl, tt)
+    by : (a b : Bool) → (a ≡ true → b ≡ true → n ≡ 0) → Follow n (when c asks ps) (if a && b then [] ∷ [] else [])
+    by true true d = (sym (d refl refl), λ zs. refl, tt)
     by true false d = tt
     by false b d = tt
-choices_follow zero (from low to high take f) d = absurd d
-choices_follow (suc n) (from low to high take f) d = follow-upward n low high f (high + 1 - low) low refl (λ y. choices_follow n (f y) (d y))
+choices_follow zero r (from low to high take f) g = absurd g
+choices_follow (suc n) r (from low to high take f) g = follow-upward n low high f (high + 1 - low) low refl (λ y. choices_follow n r (f y) (g y))
 
-after_follow : (n : ℕ) (t : Terms) (ws : List ℕ) → HasDepth n t → Follow n t (choices_after t ws)
+after_follow : (n r : ℕ) (t : Terms) (ws : List ℕ) → IsGrounded n r t → Follow n t (choices_after t ws)
 unfolding choices_after
-after_follow n (when c asks ps) ws d = tt
-after_follow zero (from low to high take f) ws d = absurd d
-after_follow (suc n) (from low to high take f) [] d = tt
-after_follow (suc n) (from low to high take f) (x ∷ ws) d =
-    follow-joined n low high f x (choices_after (f x) ws) (after_follow n (f x) ws (d x))
-    (follow-upward n low high f (high + 1 - (x + 1)) (x + 1) refl (λ y. choices_follow n (f y) (d y)))
+after_follow n r (when c asks ps) ws g = tt
+after_follow zero r (from low to high take f) ws g = absurd g
+after_follow (suc n) r (from low to high take f) [] g = tt
+after_follow (suc n) r (from low to high take f) (x ∷ ws) g =
+    follow-joined n low high f x (choices_after (f x) ws) (after_follow n r (f x) ws (g x))
+    (follow-upward n low high f (high + 1 - (x + 1)) (x + 1) refl (λ y. choices_follow n r (f y) (g y)))
 
 -- the steps after each step are those behind it
 abbrev StepsFollow : Query → List Step → Type 0
@@ -91,31 +94,40 @@ numbered : map number_of_rule rules ≡ list_below (length rules) (λ i. i + 1)
 unfolding join_below
 numbered = refl
 
-rules_follow : (q : Query) (n i : ℕ) → length rules - i ≡ n → StepsFollow q (steps_of q (drop i rules))
+-- the candidates of a rule, with those of the rules behind it
+by_follow : (q : Query) (r : Rule) → in_bounds q ≡ true → StepsFollow q (steps_of q (rules_after r)) → StepsFollow q (steps_by q r ++ steps_of q (rules_after r))
+unfolding steps_by
+by_follow q r b behind = by (serves (kind_of q) r)
+  where
+    by : (served : Bool) → StepsFollow q ((if served then map (step_with r) (choices (terms q r)) else []) ++ steps_of q (rules_after r))
+    by true = rule_follow q r (choices (terms q r)) (choices_follow (title r).parameters (rank q) (terms q r) (grounded q b r)) behind
+    by false = behind
+
+rules_follow : (q : Query) → in_bounds q ≡ true → (n i : ℕ) → length rules - i ≡ n → StepsFollow q (steps_of q (drop i rules))
 unfolding steps_of
-rules_follow q zero i e = subst (λ rs. StepsFollow q (steps_of q rs)) (sym (drop_all i rules (omega arith))) tt
-rules_follow q (suc n) i e =
+rules_follow q b zero i e = subst (λ rs. StepsFollow q (steps_of q rs)) (sym (drop_all i rules (omega arith))) tt
+rules_follow q b (suc n) i e =
     let r : Rule = get_or rules i TdOne in
     let number : number_of_rule r ≡ i + 1 =
     sym (get_or-map number_of_rule rules i TdOne 0 (omega arith)) ∙ ap (λ l. get_or l i 0) numbered ∙ get_or-list_below (length rules) (λ i. i + 1) i 0 (omega arith) in
-    let behind : StepsFollow q (steps_of q (rules_after r)) = subst (λ j. StepsFollow q (steps_of q (drop j rules))) (sym number) (rules_follow q n (i + 1) (omega arith)) in
+    let behind : StepsFollow q (steps_of q (rules_after r)) = subst (λ j. StepsFollow q (steps_of q (drop j rules))) (sym number) (rules_follow q b n (i + 1) (omega arith)) in
     subst (λ rs. StepsFollow q (steps_of q rs)) (ap (λ j. r ∷ drop j rules) number ∙ sym (drop_more rules i TdOne (omega arith)))
-    (rule_follow q r (choices (terms q r)) (choices_follow (title r).parameters (terms q r) (depth q r)) behind)
+    (subst (λ (ss : List Step). StepsFollow q ss) (sym (rules-cons q r (rules_after r))) (by_follow q r b behind))
 
 -- the candidates: the first one, and those behind it
-pub from_first : (q : Query) (first : Option Step) → first ≡ head (steps_of q rules) → steps_from q first ≡ candidates q
+pub from_first : (q : Query) (first : Option Step) → in_bounds q ≡ true → first ≡ head (steps_of q rules) → steps_from q first ≡ candidates q
 unfolding candidates steps_of
-from_first q first e = ap (steps_from q) e ∙ sym (split-first q (steps_of q rules) (rules_follow q (length rules) 0 refl))
+from_first q first b e = ap (steps_from q) e ∙ sym (split-first q (steps_of q rules) (rules_follow q b (length rules) 0 refl))
 
 -- the candidates behind a step: the first one, and those behind that
-of_after : (q : Query) (s : Step) → steps_after q s ≡ steps_from q (head (steps_after q s))
+of_after : (q : Query) (s : Step) → in_bounds q ≡ true → steps_after q s ≡ steps_from q (head (steps_after q s))
 unfolding steps_after steps_behind
-of_after q s =
+of_after q s b =
     split-first q (steps_after q s)
     (subst (λ t. StepsFollow q (map (step_with s.rule) (choices_after t (four s)) ++ steps_of q (rules_after s.rule))) (sym (terms_at-none (terms q s.rule)))
-    (rule_follow q s.rule (choices_after (terms q s.rule) (four s)) (after_follow (title s.rule).parameters (terms q s.rule) (four s) (depth q s.rule))
-    (rules_follow q (length rules - number_of_rule s.rule) (number_of_rule s.rule) refl)))
+    (rule_follow q s.rule (choices_after (terms q s.rule) (four s)) (after_follow (title s.rule).parameters (rank q) (terms q s.rule) (four s) (grounded q b s.rule))
+    (rules_follow q b (length rules - number_of_rule s.rule) (number_of_rule s.rule) refl)))
 
 -- one step further
-pub from_next : (q : Query) (s : Step) (next : Option Step) → next ≡ head (steps_after q s) → steps_from q (Some s) ≡ s ∷ steps_from q next
-from_next q s next e = ap (λ l. s ∷ l) (of_after q s ∙ ap (steps_from q) (sym e))
+pub from_next : (q : Query) (s : Step) (next : Option Step) → in_bounds q ≡ true → next ≡ head (steps_after q s) → steps_from q (Some s) ≡ s ∷ steps_from q next
+from_next q s next b e = ap (λ l. s ∷ l) (of_after q s b ∙ ap (steps_from q) (sym e))

@@ -1,12 +1,16 @@
 pub mod Bounds
 pub mod Chosen
-pub mod Depths
 pub mod Each
-pub mod Few
 pub mod Firsts
 pub mod Followed
+pub mod Grounded
 pub mod Members
-pub mod Ranks
+pub mod Passing
+pub mod Rules
+mod Samples
 pub mod Spelled
+pub mod TdRules
+pub mod Told
 pub mod Turns
 pub mod Unfolds
+pub mod Works

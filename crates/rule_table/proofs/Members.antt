@@ -1,27 +1,31 @@
 -- A step that the table allows is one of the candidates, and the premises behind some parameters.
 use Rattle.std.proofs.Common.{◌≡◌, ℕ, zero, suc, ◌+◌, ◌-◌, ◌≤◌, Bool, true, false, ◌&&◌, List, [], ◌∷◌, ◌++◌, arith, refl, map, length, ap, sym, subst, ◌∙◌}
-use Rattle.std.specs.Prelude.{flat_map, if◌then◌else◌, ◌↔◌}
+use Rattle.std.specs.Prelude.{flat_map, filter, if◌then◌else◌, ◌↔◌}
 use Rattle.std.specs.List.{list_all, AllByRecursion, Contains}
 use Rattle.std.proofs.lemmas.Bool.{leb-true}
 use Rattle.std.proofs.lemmas.List.Elements.{Contains-append_left, Contains-append_right}
 use Rattle.counting.specs.Search.{upward}
 use Rattle.counting.proofs.Ranges.{length-list_below, get_or-list_below}
 use Rattle.design_base.specs.declared.query.Query.{Query}
+use Rattle.design_base.specs.declared.rule.Kind.{Kind}
 use Rattle.design_base.specs.declared.rule.Rule.{Rule}
 use Rattle.design_base.specs.declared.rule.Rule.TheVariants.{TdOne}
-use Rattle.design_base.specs.Rules.{rules, number_of_rule, title}
+use Rattle.design_base.specs.Rules.{rules, number_of_rule, serves, kind_of, title}
 use Rattle.design_base.specs.Limits.{in_bounds, within}
 use Rattle.design_base.specs.Steps.{Step, IsStep, step, step_with}
 use Rattle.smallvec.specs.SmallVec.{SmallVec}
 use Rattle.rule_table.specs.declared.next.Next.TheVariants.{Parameter, Premises, Nothing}
 use Rattle.rule_table.specs.Terms.{Terms, when◌asks◌, from◌to◌take◌, choices, allows, premises_at}
 use Rattle.rule_table.specs.Table.{terms}
-use Rattle.rule_table.specs.Candidates.{candidates, is_candidate, premises, four}
+use Rattle.rule_table.specs.Candidates.{candidates, serving, is_candidate, premises, four}
+use Rattle.rule_table.specs.Rank.{rank}
 use Rattle.rule_table.specs.Nexts.{IsNext}
 use Rattle.rule_table.specs.Walks.{terms_at}
 use Rattle.rule_table.proofs.Bounds.{both}
-use Rattle.rule_table.proofs.Chosen.{candidates_are}
-use Rattle.rule_table.proofs.Depths.{HasDepth, depth}
+use Rattle.rule_table.proofs.Each.{each-passing}
+use Rattle.rule_table.proofs.Grounded.{IsGrounded}
+use Rattle.rule_table.proofs.Passing.{candidates_are}
+use Rattle.rule_table.proofs.Rules.{grounded}
 use Rattle.rule_table.proofs.Firsts.{terms_at-none, next-parameter, next-premises, next-nothing}
 
 -- what is allowed, and the premises, by what the terms say first
@@ -95,6 +99,19 @@ each-Contains P [] x a (k, l, e) = absurd (omega (arith, l))
 each-Contains P (y ∷ xs) x a (zero, l, e) = subst P e a.0
 each-Contains P (y ∷ xs) x a (suc k, l, e) = each-Contains P xs x a.1 (k, omega (arith, l), e)
 
+Contains-filter : {X : Type 0} (test : X → Bool) (xs : List X) (x : X) → test x ≡ true → Contains xs x → Contains (filter test xs) x
+Contains-filter test [] x t (k, l, e) = absurd (omega (arith, l))
+Contains-filter {X = X} test (y ∷ xs) x t (zero, l, e) = first (test y) (ap test e ∙ t)
+  where
+    first : (b : Bool) → b ≡ true → Contains (if b then y ∷ filter test xs else filter test xs) x
+    first true h = (0, omega arith, e)
+    first false h = absurd (cc)
+Contains-filter {X = X} test (y ∷ xs) x t (suc k, l, e) = later (test y) (Contains-filter test xs x t (k, omega (arith, l), e))
+  where
+    later : (b : Bool) → Contains (filter test xs) x → Contains (if b then y ∷ filter test xs else filter test xs) x
+    later true c = (suc c.0, omega (arith, c.1), c.2)
+    later false c = c
+
 Contains-upward : (low high x : ℕ) → low ≤ x → x ≤ high → Contains (upward low high) x
 Contains-upward low high x l h = (
   x - low,
@@ -114,20 +131,21 @@ record Begins (n : ℕ) (t : Terms) (ys : List ℕ) : Type 0 where
   pub whole : ys ≡ first ++ rest
   pub many : length first ≡ n
 
-allowed_begins : (n : ℕ) (t : Terms) (ys : List ℕ) → HasDepth n t → allows t ys ≡ true → Begins n t ys
+allowed_begins : (n r : ℕ) (t : Terms) (ys : List ℕ) → IsGrounded n r t → allows t ys ≡ true → Begins n t ys
 unfolding choices allows
-allowed_begins n (when c asks ps) ys d h =
-    record { first = []; rest = ys; chosen = only (c && list_all in_bounds ps) h; whole = refl; many = sym (d (both c (list_all in_bounds ps) h).0) }
+allowed_begins n r (when c asks ps) ys g h =
+    let a = both c (list_all in_bounds ps) h in
+    record { first = []; rest = ys; chosen = only (c && list_all in_bounds ps) h; whole = refl; many = sym (g a.0 (each-passing in_bounds ps a.1)).last }
   where
     only : (b : Bool) → b ≡ true → Contains {X = List ℕ} (if b then [] ∷ [] else []) []
     only true e = (0, omega arith, refl)
     only false e = cc
-allowed_begins zero (from low to high take f) ys d h = absurd d
-allowed_begins (suc n) (from low to high take f) [] d h = cc
-allowed_begins (suc n) (from low to high take f) (x ∷ ys) d h =
+allowed_begins zero r (from low to high take f) ys g h = absurd g
+allowed_begins (suc n) r (from low to high take f) [] g h = cc
+allowed_begins (suc n) r (from low to high take f) (x ∷ ys) g h =
     let a = both (within low high x) (allows (f x) ys) h in
     let w = both _ _ a.0 in
-    let b = allowed_begins n (f x) ys (d x) a.1 in
+    let b = allowed_begins n r (f x) ys (g x) a.1 in
     record {
       first = x ∷ b.first;
       rest = b.rest;
@@ -146,32 +164,48 @@ step_back s i (a ∷ b ∷ c ∷ []) zs e n = let ea : a ≡ s.a = cc in let eb 
 step_back s i (a ∷ b ∷ c ∷ d ∷ []) zs e n = let ea : a ≡ s.a = cc in let eb : b ≡ s.b = cc in let ec : c ≡ s.c = cc in let ed : d ≡ s.d = cc in λ j. step s.rule (ea j) (eb j) (ec j) (ed j)
 step_back s i (a ∷ b ∷ c ∷ d ∷ f ∷ xs) zs e n = absurd (cc)
 
-allowed_in : (q : Query) (s : Step) → IsStep s → is_candidate q s ≡ true → Contains (candidates q) s
+allowed_in : (q : Query) (s : Step) → in_bounds q ≡ true → IsStep s → is_candidate q s ≡ true → Contains (candidates q) s
 unfolding candidates is_candidate
-allowed_in q s i h =
-    let b = allowed_begins (title s.rule).parameters (terms q s.rule) (four s) (depth q s.rule) h in
+allowed_in q s bounds i h =
+    let a = both (serves (kind_of q) s.rule) (allows (terms q s.rule) (four s)) h in
+    let b = allowed_begins (title s.rule).parameters (rank q) (terms q s.rule) (four s) (grounded q bounds s.rule) a.1 in
     subst (λ t. Contains (candidates q) t) (step_back s i b.first b.rest b.whole b.many)
-    (Contains-flat_map (λ r. map (step_with r) (choices (terms q r))) rules s.rule (step_with s.rule b.first) (Contains-rules s.rule)
+    (Contains-flat_map (λ r. map (step_with r) (choices (terms q r))) (serving q rules) s.rule (step_with s.rule b.first)
+    (Contains-filter (serves (kind_of q)) rules s.rule a.0 (Contains-rules s.rule))
     (Contains-map (step_with s.rule) (choices (terms q s.rule)) b.first b.chosen))
 
 -- the candidates are the steps that the test of candidates tells
 pub candidate_is_in : (q : Query) (s : Step) → in_bounds q ≡ true → IsStep s → (is_candidate q s ≡ true) ↔ Contains (candidates q) s
-candidate_is_in q s b i = (allowed_in q s i, each-Contains (λ s. is_candidate q s ≡ true) (candidates q) s (candidates_are q b))
+candidate_is_in q s b i = (allowed_in q s b i, each-Contains (λ s. is_candidate q s ≡ true) (candidates q) s (candidates_are q b))
 
 -- the same of a step as the code has it
 
 module _ (q : Query) (r : Rule) (a b c d : ℕ) (s : Step) (e : step r a b c d ≡ s) where
-  pub candidate_told : (told : Bool) → told ≡ allows (terms_at (terms q r) []) (a ∷ b ∷ c ∷ d ∷ []) → told ≡ is_candidate q s
+  passes : is_candidate q s ≡ (serves (kind_of q) r && allows (terms_at (terms q r) []) (a ∷ b ∷ c ∷ d ∷ []))
   unfolding is_candidate
-  candidate_told told h = h ∙ (λ i. allows (terms_at-none (terms q r) i) (a ∷ b ∷ c ∷ d ∷ [])) ∙ ap (is_candidate q) e
+  passes = ap (is_candidate q) (sym e) ∙ (λ i. serves (kind_of q) r && allows (sym (terms_at-none (terms q r)) i) (a ∷ b ∷ c ∷ d ∷ []))
 
-  pub member_told : (told : Bool) → in_bounds q ≡ true → IsStep (step r a b c d) → told ≡ allows (terms_at (terms q r) []) (a ∷ b ∷ c ∷ d ∷ []) → (told ≡ true) ↔ Contains (candidates q) s
-  member_told told h i t =
-      let m = candidate_is_in q s h (subst IsStep e i) in
-      (λ y. m.0 (sym (candidate_told told t) ∙ y), λ y. candidate_told told t ∙ m.1 y)
+  pub candidate_told : (kind : Kind) (served told : Bool) → kind ≡ kind_of q → served ≡ serves kind r → served ≡ true
+      → told ≡ allows (terms_at (terms q r) []) (a ∷ b ∷ c ∷ d ∷ []) → told ≡ is_candidate q s
+  candidate_told kind served told k h y t =
+      t ∙ sym (passes ∙ ap (λ v. v && allows (terms_at (terms q r) []) (a ∷ b ∷ c ∷ d ∷ [])) (ap (λ k. serves k r) (sym k) ∙ sym h ∙ y))
+
+  pub candidate_other : (kind : Kind) (served : Bool) → kind ≡ kind_of q → served ≡ serves kind r → served ≡ false → served ≡ is_candidate q s
+  candidate_other kind served k h n = n ∙ sym (passes ∙ ap (λ v. v && allows (terms_at (terms q r) []) (a ∷ b ∷ c ∷ d ∷ [])) (ap (λ k. serves k r) (sym k) ∙ sym h ∙ n))
+
+  member_by : (told : Bool) → in_bounds q ≡ true → IsStep (step r a b c d) → told ≡ is_candidate q s → (told ≡ true) ↔ Contains (candidates q) s
+  member_by told h i t = let m = candidate_is_in q s h (subst IsStep e i) in (λ y. m.0 (sym t ∙ y), λ y. t ∙ m.1 y)
+
+  pub member_told : (kind : Kind) (served told : Bool) → in_bounds q ≡ true → IsStep (step r a b c d) → kind ≡ kind_of q → served ≡ serves kind r → served ≡ true
+      → told ≡ allows (terms_at (terms q r) []) (a ∷ b ∷ c ∷ d ∷ []) → (told ≡ true) ↔ Contains (candidates q) s
+  member_told kind served told h i k j y t = member_by told h i (candidate_told kind served told k j y t)
+
+  pub member_other : (kind : Kind) (served : Bool) → in_bounds q ≡ true → IsStep (step r a b c d) → kind ≡ kind_of q → served ≡ serves kind r → served ≡ false
+      → (served ≡ true) ↔ Contains (candidates q) s
+  member_other kind served h i k j n = member_by served h i (candidate_other kind served k j n)
 
   pub candidate_allowed : is_candidate q s ≡ true → allows (terms_at (terms q r) []) (a ∷ b ∷ c ∷ d ∷ []) ≡ true
-  candidate_allowed h = candidate_told (allows (terms_at (terms q r) []) (a ∷ b ∷ c ∷ d ∷ [])) refl ∙ h
+  candidate_allowed h = (both (serves (kind_of q) r) (allows (terms_at (terms q r) []) (a ∷ b ∷ c ∷ d ∷ [])) (sym passes ∙ h)).1
 
   pub premises_told : (ps : List Query) → ps ≡ premises_at (terms_at (terms q r) []) (a ∷ b ∷ c ∷ d ∷ []) → ps ≡ premises q s
   unfolding premises
@@ -180,7 +214,7 @@ module _ (q : Query) (r : Rule) (a b c d : ℕ) (s : Step) (e : step r a b c d �
 -- for the functions of the parameters of a step
 pub ruleset allows_laws = (allows_inside, allows_short, allows_premises, allows_nothing)
 
-pub ruleset candidate_laws = (candidate_told, member_told)
+pub ruleset candidate_laws = (candidate_told, candidate_other, member_told, member_other)
 
 pub ruleset premises_behind_laws = (allows_later, allows_nothing, premises_further, premises_short, premises_premises)
 

@@ -22,10 +22,9 @@ use Rattle.rule_table.specs.Rank.{rank}
 use Rattle.rule_table.specs.Verdicts.{first_step, is_yes, judged, verdict, yes_or_unknown}
 use Rattle.rule_table.specs.Walks.{head, steps_after, steps_from, steps_of}
 use Rattle.rule_table.proofs.Followed.{from_first, from_next}
-use Rattle.rule_table.proofs.Few.{premises_few}
-use Rattle.rule_table.proofs.Chosen.{candidates_are}
 use Rattle.rule_table.proofs.Each.{each-both}
-use Rattle.rule_table.proofs.Unfolds.{IsBelow, candidates_fall, verdict_unfolds}
+use Rattle.rule_table.proofs.Passing.{IsBelow, candidates_are, candidates_fall, premises_few}
+use Rattle.rule_table.proofs.Unfolds.{verdict_unfolds}
 
 -- the verdict and the questions asked for, by the criterion
 
@@ -224,7 +223,7 @@ place_small e q c next i s told view h k t =
     by None (Some u) h n e k =
         let m = next_premise q u i t.0 h n in
         let l : length (drop i (premises q u)) ≡ suc (length m.0) = ap length m.1 in
-        omega (arith, l, premises_few q u, length-drop i (premises q u))
+        omega (arith, l, premises_few q u h.bounds h.sound.0.0, length-drop i (premises q u))
     by None None h n e k = absurd (cc)
     by (Some c) next h n e k = absurd (cc)
 
@@ -294,7 +293,7 @@ other_on : (q : Query) (s : Step) (i : ℕ) (p : Query) (later : Option Step) �
 unfolding asked_still found_from
 other_on q s i p later h n y k =
     let m = next_premise q s i p h n in
-    let step : s ∷ steps_after q s ≡ s ∷ steps_from q later = from_next q s later k in
+    let step : s ∷ steps_after q s ≡ s ∷ steps_from q later = from_next q s later h.bounds k in
     let on : steps_after q s ≡ steps_from q later = cc in
     let e : asked_still q None later 0 ≡ n.0 = sym (asked_on q later) ∙ ap (asked_by q) (sym on) ∙ ap (still_after q s m.0) (sym y) ∙ sym m.2 in
     let a = advanced q None (Some s) later i 0 p h n e in
@@ -356,7 +355,7 @@ pub begins : (q : Query) (c : Option Criterion) (next : Option Step) → in_boun
 unfolding asked_still progress
 begins q c next b e d k =
     let n : None ≡ criterion_of q = sym d ∙ e in
-    let on : candidates q ≡ steps_from q next = sym (from_first q next k) in
+    let on : candidates q ≡ steps_from q next = sym (from_first q next b k) in
     let all : asked q ≡ asked_still q None next 0 = asked-as q ∙ ap (asked_as q) (sym n) ∙ ap (asked_by q) on ∙ asked_on q next in
     let f : first_step verdict q ≡ found_from q next 0 = ap (first_proved q) on ∙ found_on q next in
     let s : AllByRecursion (IsSound q) (candidates q)

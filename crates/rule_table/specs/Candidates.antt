@@ -1,7 +1,8 @@
 -- The candidates of a question, and their premises.
-use Rattle.std.specs.Prelude.{ℕ, Bool, List, [], ◌∷◌, map, flat_map}
+use Rattle.std.specs.Prelude.{ℕ, Bool, ◌&&◌, List, [], ◌∷◌, map, flat_map, filter}
 use Rattle.design_base.specs.declared.query.Query.{Query}
-use Rattle.design_base.specs.Rules.{rules}
+use Rattle.design_base.specs.declared.rule.Rule.{Rule}
+use Rattle.design_base.specs.Rules.{rules, serves, kind_of}
 use Rattle.design_base.specs.Steps.{Step, step_with}
 use Rattle.rule_table.specs.Terms.{choices, allows, premises_at}
 use Rattle.rule_table.specs.Table.{terms}
@@ -10,13 +11,17 @@ use Rattle.rule_table.specs.Table.{terms}
 abbrev pub four : Step → List ℕ
 four s = s.a ∷ s.b ∷ s.c ∷ s.d ∷ []
 
+-- the rules among some that serve questions of this kind
+abbrev pub serving : Query → List Rule → List Rule
+serving q rs = filter (serves (kind_of q)) rs
+
 -- the steps that the table allows, by the number of the rule and then by the parameters
 unfoldable pub candidates : Query → List Step
-candidates q = flat_map (λ r. map (step_with r) (choices (terms q r))) rules
+candidates q = flat_map (λ r. map (step_with r) (choices (terms q r))) (serving q rules)
 
 -- the step is one of them
 unfoldable pub is_candidate : Query → Step → Bool
-is_candidate q s = allows (terms q s.rule) (four s)
+is_candidate q s = serves (kind_of q) s.rule && allows (terms q s.rule) (four s)
 
 -- the questions on which the step rests, in order
 unfoldable pub premises : Query → Step → List Query

@@ -1,9 +1,11 @@
 pub mod Terms
+pub mod TdTerms
 pub mod Table
 pub mod Candidates
 pub mod Rank
 pub mod Verdicts
 pub mod Asked
+pub mod Work
 pub mod Walks
 pub mod Takens
 pub mod Nexts

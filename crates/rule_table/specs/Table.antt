@@ -1,25 +1,14 @@
--- The table of rules: for each kind of question its rules in their order, each with its parameters, its condition and its
--- premises. Ranges end where the condition can hold no more, so that a walk through them ends early. The rules of difference
--- families and of block designs are not stated yet.
-use Rattle.std.specs.Prelude.{◌+◌, ◌-◌, ◌*◌, ◌/◌, ◌==◌, ◌&&◌, max, [], ◌∷◌}
-use Rattle.counting.specs.Search.{◌<=◌}
+-- The table of rules: the terms of a rule at a question, by the kind of the question. A rule that does not serve the kind has none.
 use Rattle.design_base.specs.declared.query.Query.{Query}
-use Rattle.design_base.specs.declared.query.Query.TheVariants.{Td}
+use Rattle.design_base.specs.declared.query.Query.TheVariants.{Td, Df, Bibd, Gdd, Pbd}
 use Rattle.design_base.specs.declared.rule.Rule.{Rule}
-use Rattle.design_base.specs.declared.rule.Rule.TheVariants.{TdOne, Cyclic, Field, Product, Parker, Wilson1, Wilson2}
-use Rattle.design_base.specs.Fields.{has_field}
-use Rattle.rule_table.specs.Terms.{Terms, when◌asks◌, from◌to◌take◌, only◌take◌, never}
+use Rattle.rule_table.specs.Terms.{Terms, never}
+use Rattle.rule_table.specs.TdTerms.{td_terms}
 
+-- the rules of the last four kinds are not stated yet
 unfoldable pub terms : Query → Rule → Terms
-terms (Td k n) TdOne = when n == 1 asks []
-terms (Td k n) Cyclic = when 2 <= n && k <= 3 asks []
-terms (Td k n) Field = when has_field n && k <= n + 1 asks []
-terms (Td k n) Product = from 2 to n / 2 take (λ a. only n / a take (λ b. when a <= b && a * b == n asks (Td k a ∷ Td k b ∷ [])))
-terms (Td k n) Parker = only (n - 1) / 3 take (λ m. when k == 4 && 1 <= m && 3 * m + 1 == n asks (Td 4 m ∷ []))
-terms (Td k n) Wilson1 = from 2 to n / k take (λ m. from k to n / m take (λ t. only n - m * t take (λ u.
-    when m * t + u == n && 1 <= u && u <= t
-    asks (Td (k + 1) t ∷ Td k m ∷ Td k (m + 1) ∷ Td k u ∷ []))))
-terms (Td k n) Wilson2 = from max 2 (k - 2) to n / (k + 1) take (λ m. from k + 1 to n / m take (λ t. from (n - m * t + 1) / 2 to t take (λ u. only n - m * t - u take (λ w.
-    when m * t + u + w == n && 1 <= w && w <= u && k <= m + 2
-    asks (Td (k + 2) t ∷ Td k m ∷ Td k (m + 1) ∷ Td k (m + 2) ∷ Td k u ∷ Td k w ∷ [])))))
-terms q r = never
+terms (Td k n) r = td_terms k n r
+terms (Df group v k l) r = never
+terms (Bibd v k l) r = never
+terms (Gdd k g u) r = never
+terms (Pbd v s) r = never

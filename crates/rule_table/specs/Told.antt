@@ -45,8 +45,8 @@ ToldAfter q None known old_steps new_steps = ⊤
 ToldAfter q (Some old) None old_steps new_steps = ⊥
 ToldAfter q (Some old) (Some new) old_steps new_steps = Learns q old new × IsPaid old new old_steps new_steps
 
--- what several calls told, one after the other
-abbrev pub KeptAfter : Option Cells → Option Cells → ℕ → ℕ → Type 0
-KeptAfter None known old_steps new_steps = ⊤
-KeptAfter (Some old) None old_steps new_steps = ⊥
-KeptAfter (Some old) (Some new) old_steps new_steps = Keeps old new × IsPaid old new old_steps new_steps
+-- what several calls told, one after the other, each on a question of smaller rank than q
+abbrev pub KeptAfter : Query → Option Cells → Option Cells → ℕ → ℕ → Type 0
+KeptAfter q None known old_steps new_steps = ⊤
+KeptAfter q (Some old) None old_steps new_steps = ⊥
+KeptAfter q (Some old) (Some new) old_steps new_steps = Grows q old new × IsPaid old new old_steps new_steps

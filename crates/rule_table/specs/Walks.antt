@@ -1,13 +1,13 @@
 -- The candidates behind a place in the table.
-use Rattle.std.specs.Prelude.{ℕ, ◌+◌, List, [], ◌∷◌, ◌++◌, map, flat_map, drop, Option, Some, None}
+use Rattle.std.specs.Prelude.{ℕ, ◌+◌, List, [], ◌∷◌, ◌++◌, map, flat_map, drop, if◌then◌else◌, Option, Some, None}
 use Rattle.counting.specs.Search.{upward}
 use Rattle.design_base.specs.declared.query.Query.{Query}
 use Rattle.design_base.specs.declared.rule.Rule.{Rule}
-use Rattle.design_base.specs.Rules.{rules, number_of_rule}
+use Rattle.design_base.specs.Rules.{rules, number_of_rule, serves, kind_of}
 use Rattle.design_base.specs.Steps.{Step, step_with}
 use Rattle.rule_table.specs.Terms.{Terms, when◌asks◌, from◌to◌take◌, choices}
 use Rattle.rule_table.specs.Table.{terms}
-use Rattle.rule_table.specs.Candidates.{four}
+use Rattle.rule_table.specs.Candidates.{four, serving}
 
 -- the first element, where there is one
 abbrev pub head : {X : Type 0} → List X → Option X
@@ -39,9 +39,13 @@ steps_between q r xs low high = flat_map (λ x. steps_under q r (xs ++ x ∷ [])
 unfoldable pub steps_behind : Query → Rule → List ℕ → List ℕ → List Step
 steps_behind q r xs rest = map (λ ys. step_with r (xs ++ ys)) (choices_after (terms_at (terms q r) xs) rest)
 
+-- the candidates of a rule, which are none where it does not serve the question
+unfoldable pub steps_by : Query → Rule → List Step
+steps_by q r = if serves (kind_of q) r then map (step_with r) (choices (terms q r)) else []
+
 -- the candidates of some rules
 unfoldable pub steps_of : Query → List Rule → List Step
-steps_of q rs = flat_map (λ r. map (step_with r) (choices (terms q r))) rs
+steps_of q rs = flat_map (λ r. map (step_with r) (choices (terms q r))) (serving q rs)
 
 abbrev pub rules_after : Rule → List Rule
 rules_after r = drop (number_of_rule r) rules

@@ -2,6 +2,7 @@ ghost use Rattle.std.specs.Prelude.{◌≡◌, ◌≤◌, true, ◌↔◌, lengt
 ghost use Rattle.std.specs.List.{AllByRecursion, Contains};
 ghost use Rattle.design_base.specs.declared.limits.TheConstants.{PARAMETER_MAX, PREMISES_MAX};
 ghost use Rattle.design_base.specs.Limits.{in_bounds, within};
+ghost use Rattle.design_base.specs.Rules.{title};
 ghost use Rattle.rule_table.specs.Candidates.{candidates, premises as premises_of, is_candidate as is_candidate_of};
 ghost use Rattle.rule_table.specs.Table.{terms};
 ghost use Rattle.rule_table.specs.Takens.{listed, IsSmall};
@@ -28,6 +29,7 @@ fn is_within(low: u16, high: u16, x: u16) -> bool
 fn is_allowed(tools: &Tools, q: &Query, rule: Rule, taken: Taken, rest: &[u16]) -> bool
     requires bounds { in_bounds q.now ≡ true }
     requires small { IsSmall taken }
+    requires count { length (listed taken) ≤ (title rule).parameters }
     requires rest_small { AllByRecursion (λ x. x ≤ PARAMETER_MAX) rest.now }
     ensures { result ≡ allows (terms_at (terms q.now rule) (listed taken)) rest.now }
 {
@@ -50,7 +52,7 @@ pub fn is_candidate(tools: &Tools, q: &Query, step: &Step) -> bool
     ensures member { result ≡ true ↔ Contains (candidates q.now) step.now }
 {
     let parameters = [step.a, step.b, step.c, step.d];
-    is_allowed(tools, q, step.rule, Taken::Zero, &parameters)
+    step.rule.serves(q.kind()) && is_allowed(tools, q, step.rule, Taken::Zero, &parameters)
 }
 
 // The premises at the rest of the parameters, which the table allows.
@@ -58,6 +60,7 @@ pub fn is_candidate(tools: &Tools, q: &Query, step: &Step) -> bool
 fn premises_behind(tools: &Tools, q: &Query, rule: Rule, taken: Taken, rest: &[u16]) -> Premises
     requires bounds { in_bounds q.now ≡ true }
     requires small { IsSmall taken }
+    requires count { length (listed taken) ≤ (title rule).parameters }
     requires rest_small { AllByRecursion (λ x. x ≤ PARAMETER_MAX) rest.now }
     requires allowed { allows (terms_at (terms q.now rule) (listed taken)) rest.now ≡ true }
     ensures items { result.items ≡ premises_at (terms_at (terms q.now rule) (listed taken)) rest.now }

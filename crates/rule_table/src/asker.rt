@@ -1,7 +1,8 @@
-ghost use Rattle.std.specs.Prelude.{◌≡◌, true};
+ghost use Rattle.std.specs.Prelude.{◌≡◌, ◌+◌, true};
 ghost use Rattle.design_base.specs.Limits.{in_bounds};
 ghost use Rattle.rule_table.specs.Told.{ToldAfter};
 ghost use Rattle.rule_table.specs.Verdicts.{verdict};
+ghost use Rattle.rule_table.specs.Work.{work};
 
 use crate::steps::Steps;
 use crate::tools::Tools;
@@ -31,7 +32,7 @@ pub trait Asker {
         ensures told { ToldAfter q.now (told self.old) (told self.new) steps.old steps.new };
 }
 
-/// Answers each question afresh: it has no memo, and tells nothing.
+/// Answers each question afresh: it has no memo, and tells nothing. The steps rise by the work of the question.
 #[derive(Drop)]
 pub struct PlainAsker;
 
@@ -42,7 +43,11 @@ impl Asker for PlainAsker {
 
     ghost told = { λ _. None };
 
-    fn ask<L: Ledger>(&mut self, q: &Query, tools: &Tools, steps: &mut Steps<L>) -> Verdict {
+    fn ask<L: Ledger>(&mut self, q: &Query, tools: &Tools, steps: &mut Steps<L>) -> Verdict
+        requires bounds { in_bounds q.now ≡ true }
+        ensures verdict { result ≡ verdict q.now }
+        ensures steps { steps.new ≡ steps.old + work q.now }
+    {
         evaluate(q, tools, steps)
     }
 }

@@ -23,7 +23,6 @@ pub use evaluation::Evaluation;
 pub use inquiry::Inquiry;
 pub use next::Premises;
 pub use steps::Steps;
-pub use table::RULES;
 pub use tools::Tools;
 pub use turn::Turn;
 pub use verdicts::evaluate;

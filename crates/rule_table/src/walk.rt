@@ -4,13 +4,13 @@ ghost use Rattle.design_base.specs.declared.limits.TheConstants.{PARAMETER_MAX};
 ghost use Rattle.design_base.specs.Limits.{in_bounds as is_in_bounds};
 ghost use Rattle.design_base.specs.Rules.{title, rules};
 ghost use Rattle.rule_table.specs.Takens.{listed, IsSmall};
-ghost use Rattle.rule_table.specs.Walks.{head, steps_under, steps_between, steps_behind, steps_of, steps_after};
+ghost use Rattle.rule_table.specs.Walks.{head, steps_under, steps_between, steps_behind, steps_by, steps_of, steps_after};
 
 use crate::next::Next;
-use crate::table::{RULES, next_of, number_of, rule_at};
+use crate::table::next_of;
 use crate::taken::Taken;
 use crate::tools::Tools;
-use design_base::{Query, Rule, Step, in_bounds};
+use design_base::{Query, RULES, Rule, Step, in_bounds, rule_at};
 
 // Whether each question is in bounds.
 pub(crate) fn are_in_bounds(questions: &[Query]) -> bool
@@ -71,6 +71,7 @@ fn first_between(
 fn first_behind(tools: &Tools, q: &Query, rule: Rule, taken: Taken, rest: &[u16]) -> Option<Step>
     requires bounds { is_in_bounds q.now ≡ true }
     requires small { IsSmall taken }
+    requires count { length (listed taken) ≤ (title rule).parameters }
     requires rest_small { AllByRecursion (λ x. x ≤ PARAMETER_MAX) rest.now }
     ensures { result ≡ head (steps_behind q.now rule (listed taken) rest.now) }
 {
@@ -84,6 +85,19 @@ fn first_behind(tools: &Tools, q: &Query, rule: Rule, taken: Taken, rest: &[u16]
     first_between(tools, q, rule, taken, *x + 1, high)
 }
 
+// The first candidate of a rule.
+#[tactic(auto, using(crate::proofs::Firsts::first_of_rule_laws))]
+fn first_of_rule(tools: &Tools, q: &Query, rule: Rule) -> Option<Step>
+    requires bounds { is_in_bounds q.now ≡ true }
+    ensures { result ≡ head (steps_by q.now rule) }
+{
+    if rule.serves(q.kind()) {
+        first_under(tools, q, rule, Taken::Zero)
+    } else {
+        None
+    }
+}
+
 // The first candidate of the rules from a place in their list on.
 #[tactic(auto, using(crate::proofs::Firsts::first_of_rules_laws))]
 pub(crate) fn first_of_rules(tools: &Tools, q: &Query, start: usize) -> Option<Step>
@@ -92,8 +106,7 @@ pub(crate) fn first_of_rules(tools: &Tools, q: &Query, start: usize) -> Option<S
     ensures { result ≡ head (steps_of q.now (drop start rules)) }
 {
     for i in start..RULES.len() {
-        let rule = rule_at(i);
-        if let Some(step) = first_under(tools, q, rule, Taken::Zero) {
+        if let Some(step) = first_of_rule(tools, q, rule_at(i)) {
             return Some(step);
         }
     }
@@ -110,5 +123,5 @@ pub(crate) fn following(tools: &Tools, q: &Query, step: &Step) -> Option<Step>
     if let Some(found) = first_behind(tools, q, step.rule, Taken::Zero, &rest) {
         return Some(found);
     }
-    first_of_rules(tools, q, number_of(step.rule))
+    first_of_rules(tools, q, step.rule.number())
 }
