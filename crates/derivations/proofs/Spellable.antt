@@ -5,7 +5,7 @@ use Rattle.std.specs.List.{AllByRecursion}
 use Rattle.design_base.specs.declared.limits.TheConstants.{PREMISES_MAX}
 use Rattle.design_base.specs.declared.query.Query.{Query}
 use Rattle.rule_table.proofs.Bounds.{both}
-use Rattle.rule_table.proofs.Few.{premises_few}
+use Rattle.rule_table.proofs.Passing.{premises_few}
 use Rattle.rule_table.proofs.Spelled.{candidate_kind}
 use Rattle.rule_table.specs.Candidates.{premises}
 use Rattle.derivations.specs.Derivations.{IsSound, answers, fault, question_at}
@@ -30,7 +30,7 @@ answers-length D (i ∷ is) (p ∷ ps) e = split (question_at D i) (answers-leng
 fine_spellable : (D : List Line) (i : ℕ) (named : List ℕ) (l : Line) → IsFine D i named l → IsSpellable l
 fine_spellable D i named l f = record {
   kind = candidate_kind l.query l.step f.candidate;
-  few = omega (arith, answers-length D l.from (premises l.query l.step) f.answered, premises_few l.query l.step);
+  few = omega (arith, answers-length D l.from (premises l.query l.step) f.answered, premises_few l.query l.step f.bounds f.candidate);
 }
 
 each_spellable : (D : List Line) (i : ℕ) (named : List ℕ) (ls : List Line) → AreFine D i named ls → AllByRecursion IsSpellable ls

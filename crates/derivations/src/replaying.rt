@@ -33,12 +33,7 @@ fn lent<'a>(alloc: Global, kept: &'a [Option<Rows>], from: &[u64]) -> Result<Vec
 }
 
 // The list of a line, made of the lists of the lines that it names.
-fn list_of_line(
-    alloc: Global,
-    kept: &[Option<Rows>],
-    line: &Line,
-    tools: &Tools,
-) -> Result<Rows, Memory>
+fn list_of_line(alloc: Global, kept: &[Option<Rows>], line: &Line) -> Result<Rows, Memory>
     requires bounds { in_bounds line.now.query ≡ true }
     requires candidate { is_candidate line.now.query line.now.step ≡ true }
     requires kept { All (IsKept kept.now) line.now.from }
@@ -47,13 +42,7 @@ fn list_of_line(
     ensures meets { IfOk result (λ rows. Meets line.now.query rows) }
 {
     let ingredients = lent(alloc, kept, line.from.as_slice())?;
-    let rows = build(
-        alloc,
-        &line.query,
-        &line.step,
-        tools,
-        ingredients.as_slice(),
-    )?;
+    let rows = build(alloc, &line.query, &line.step, ingredients.as_slice())?;
     Ok(rows)
 }
 
@@ -70,14 +59,14 @@ fn let_go(kept: &mut [Option<Rows>], from: &[u64])
 }
 
 // The list of the last of the lines, which have no fault. The list of each line is kept up to its last use: no two lines name it.
-fn last_list(alloc: Global, lines: &[Line], tools: &Tools) -> Result<Rows, Memory>
+fn last_list(alloc: Global, lines: &[Line]) -> Result<Rows, Memory>
     requires { IsSound lines.now }
     ensures list { IfOk result (λ rows. rows ≡ replayed lines.now) }
     ensures meets { (q : Query) → last_question lines.now ≡ Some q → IfOk result (λ rows. Meets q rows) }
 {
     let mut kept = Vec::new(alloc);
     for line in lines {
-        let rows = list_of_line(alloc, kept.as_slice(), line, tools)?;
+        let rows = list_of_line(alloc, kept.as_slice(), line)?;
         let_go(&mut kept, line.from.as_slice());
         kept.push(Some(rows))?;
     }
@@ -112,6 +101,6 @@ pub fn replay(alloc: Global, lines: &Derivation, tools: &Tools) -> Result<(Query
         });
     }
     let question = lines.line(lines.len() - 1).query;
-    let rows = last_list(alloc, lines.as_slice(), tools)?;
+    let rows = last_list(alloc, lines.as_slice())?;
     Ok((question, rows))
 }
