@@ -14,3 +14,4 @@ pub mod Running
 pub mod Parts
 pub mod Derived
 pub mod Spellable
+mod Samples

@@ -45,7 +45,7 @@ returns-in_err-unfold-in-Yes-clause-told g t c =
     let told = g.A.Asker.told in
     let proved = premise_is c.args.q.now c.args.step.now c.as_slice-asked.result.now c.requires.bounds c.requires.verdict (c.as_slice-asked.ensures ∙ c.premises-found.ensures.items) c.loop-premise.premise-index (Td 0 0) c.loop-premise-test.true in
     unfolded_too p c.args.q.now (told c.args.asker.now) (told c.loop-premise.asker) (told c.ask.new.self) (told c.unfold.new.asker) c.args.steps.now c.loop-premise.steps c.ask.new.steps c.unfold.new.steps
-          proved c.loop-premise.invariant.told c.ask.ensures.told c.unfold.ensures.told
+    proved c.loop-premise.invariant.told c.ask.ensures.told c.unfold.ensures.told
 
 pub returns-in_err-push-in-Yes-clause-told : goal.returns-in_err-push-in-Yes-clause-told
 returns-in_err-push-in-Yes-clause-told g t c =
@@ -53,7 +53,7 @@ returns-in_err-push-in-Yes-clause-told g t c =
     let told = g.A.Asker.told in
     let proved = premise_is c.args.q.now c.args.step.now c.as_slice-asked.result.now c.requires.bounds c.requires.verdict (c.as_slice-asked.ensures ∙ c.premises-found.ensures.items) c.loop-premise.premise-index (Td 0 0) c.loop-premise-test.true in
     unfolded_too p c.args.q.now (told c.args.asker.now) (told c.loop-premise.asker) (told c.ask.new.self) (told c.unfold.new.asker) c.args.steps.now c.loop-premise.steps c.ask.new.steps c.unfold.new.steps
-          proved c.loop-premise.invariant.told c.ask.ensures.told c.unfold.ensures.told
+    proved c.loop-premise.invariant.told c.ask.ensures.told c.unfold.ensures.told
 
 pub loop-premise-preserved : goal.loop-premise-preserved
 loop-premise-preserved g t c =
