@@ -1,5 +1,5 @@
-pub mod Candidates
-pub mod Lent
+pub mod Taken
+pub mod TdBlocks
 pub mod Meeting
 pub mod Same
 pub mod Fine
@@ -14,3 +14,4 @@ pub mod Running
 pub mod Parts
 pub mod Derived
 pub mod Spellable
+mod Samples

@@ -1,6 +1,6 @@
 -- The lines of several premises, one premise after another.
 use Rattle.std.proofs.Common.{◌≡◌, ℕ, zero, suc, ◌+◌, ◌<◌, ◌≤◌, true, List, [], ◌∷◌, ◌++◌, arith, refl, ap, sym, subst, ◌∙◌, length, get_or, drop, add-one, drop-cons, append_assoc, length-append}
-use Rattle.std.specs.Prelude.{Option, Some, None}
+use Rattle.std.specs.Prelude.{Option}
 use Rattle.std.specs.List.{AllByRecursion}
 use Rattle.std.proofs.lemmas.List.{append-nil, drop_all}
 use Rattle.design_base.specs.declared.query.Query.{Query}
@@ -13,9 +13,10 @@ use Rattle.rule_table.specs.Rank.{rank}
 use Rattle.rule_table.specs.Verdicts.{verdict}
 use Rattle.rule_table.proofs.Each.{each-weaker}
 use Rattle.rule_table.proofs.Chosen.{IsProved, chosen_of}
+use Rattle.rule_table.proofs.Told.{kept_then, kept_below, told_below}
+use Rattle.rule_table.specs.Told.{Cells, ToldAfter, KeptAfter}
 use Rattle.derivations.specs.declared.line.Line.{Line}
 use Rattle.derivations.specs.Derivations.{line, Part, parts, unfolded, unfolded_by, derivation_behind}
-use Rattle.rule_table.specs.Told.{Cells, ToldAfter, KeptAfter}
 
 parts-same : (f g : ℕ → Query → List Line) (before : ℕ) (ps : List Query) → AllByRecursion (λ p. (n : ℕ) → f n p ≡ g n p) ps → parts f before ps ≡ parts g before ps
 unfolding parts
@@ -104,17 +105,9 @@ premise_is q s ps b v e k d h = all_at (IsProved (rank q)) ps (subst (AllByRecur
 pub step_is : (q : Query) (s : Step) → in_bounds q ≡ true → verdict q ≡ Yes s → is_candidate q s ≡ true
 step_is q s b v = (chosen_of q s b v).candidate
 
-pub kept_then : (x y z : Option Cells) (a b c : ℕ) → KeptAfter x y a b → KeptAfter y z b c → KeptAfter x z a c
-kept_then None y z a b c k l = tt
-kept_then (Some x) None z a b c k l = absurd k
-kept_then (Some x) (Some y) None a b c k l = absurd l
-kept_then (Some x) (Some y) (Some z) a b c k l = (λ i h. l.0 i (k.0 i h), omega (arith, k.1, l.1))
+-- one more premise is asked for, and its lines
+pub asked_too : (p q : Query) (x y z : Option Cells) (a b c : ℕ) → IsProved (rank q) p → KeptAfter q x y a b → ToldAfter p y z b c → KeptAfter q x z a c
+asked_too p q x y z a b c d k t = kept_then q x y z a b c k (told_below p q y z b c d.0 d.1 t)
 
-pub told_kept : (q : Query) (x y : Option Cells) (a b : ℕ) → ToldAfter q x y a b → KeptAfter x y a b
-told_kept q None y a b t = tt
-told_kept q (Some x) None a b t = absurd t
-told_kept q (Some x) (Some y) a b t = (t.0.keeps, t.1)
-
-pub kept_same : (x : Option Cells) (a : ℕ) → KeptAfter x x a a
-kept_same None a = tt
-kept_same (Some x) a = (λ i h. h, omega arith)
+pub unfolded_too : (p q : Query) (x y z w : Option Cells) (a b c d : ℕ) → IsProved (rank q) p → KeptAfter q x y a b → ToldAfter p y z b c → KeptAfter p z w c d → KeptAfter q x w a d
+unfolded_too p q x y z w a b c d e k t u = kept_then q x z w a c d (asked_too p q x y z a b c e k t) (kept_below p q z w c d (omega (arith, e.1)) u)

@@ -4,6 +4,7 @@ use Rattle.std.proofs.lemmas.List.{append-nil}
 use Rattle.std.specs.Prelude.{Option, Some, None, slice_get, slice_index_or}
 use Rattle.std.specs.List.{list_all}
 use Rattle.design_base.specs.declared.query.Query.{Query}
+use Rattle.design_base.specs.Limits.{in_bounds}
 use Rattle.design_base.specs.Meets.{Meets}
 use Rattle.derivations.specs.Same.{same_query}
 use Rattle.rule_table.specs.Candidates.{premises}
@@ -78,3 +79,13 @@ replayed_meets D s q e =
     let a = sound_lists_meet D s in
     let p = s.some_line in
     meets_at D [] (lists_from [] D) a (length D - 1) (omega arith) q (subst (λ E. question_at E (length D) ≡ Some q) (sym (append-nil D)) e)
+
+-- the questions of lines without a fault are in bounds
+fine_bounds : (D : List Line) (i : ℕ) (named : List ℕ) (ls : List Line) → AreFine D i named ls → (j : ℕ) (l : Line) → slice_get ls j ≡ Some l → in_bounds l.query ≡ true
+fine_bounds D i named [] f j m e = cc
+fine_bounds D i named (l ∷ rest) f zero m e = let same : l ≡ m = cc in subst (λ x. in_bounds x.query ≡ true) same f.0.bounds
+fine_bounds D i named (l ∷ rest) f (suc j) m e = fine_bounds D (i + 1) (l.from ++ named) rest f.1 j m e
+
+pub sound_bounds : (D : List Line) → IsSound D → (j : ℕ) (l : Line) → slice_get D j ≡ Some l → in_bounds l.query ≡ true
+unfolding fault
+sound_bounds D s = fine_bounds D 1 [] D (all_fine D 1 [] D s.no_fault)

@@ -1,5 +1,5 @@
 -- Replaying, one line after another.
-use Rattle.std.proofs.Common.{◌≡◌, ℕ, zero, suc, ◌+◌, ◌-◌, ◌<◌, ◌≤◌, ◌⊎◌, inl, inr, Bool, true, false, List, [], ◌∷◌, ◌++◌, arith, refl, ap, sym, subst, ◌∙◌, length, get_or, drop, take, add-one, drop-cons, append_assoc, length-append}
+use Rattle.std.proofs.Common.{◌≡◌, ◌≢◌, ℕ, zero, suc, ◌+◌, ◌-◌, ◌<◌, ◌≤◌, ◌⊎◌, inl, inr, Bool, true, false, List, [], ◌∷◌, ◌++◌, arith, refl, ap, sym, subst, ◌∙◌, length, get_or, drop, take, add-one, drop-cons, append_assoc, length-append}
 use Rattle.std.specs.Prelude.{slice_index_or, Option, Some, None, All}
 use Rattle.std.specs.List.{list_all}
 use Rattle.std.proofs.Math.Seq.{get_or-append_seam, take-length}
@@ -14,7 +14,8 @@ use Rattle.derivations.specs.declared.line.Line.{Line}
 use Rattle.derivations.specs.Blocks.{blocks}
 use Rattle.derivations.specs.AllMeet.{AllMeet}
 use Rattle.derivations.specs.Derivations.{comes_before, question_at, answers, lists_named, lists_from, replayed, IsSound, last_question, fault}
-use Rattle.derivations.specs.Kept.{Kept}
+use Rattle.derivations.specs.Kept.{IsKept, kept_lists}
+use Rattle.derivations.proofs.Keeping.{Kept, are_kept, kept_are, others_kept}
 use Rattle.derivations.proofs.Fine.{IsFine, AreFine, all_fine}
 use Rattle.derivations.proofs.Replays.{Answered, snoc_answered, named_meet, meets_at}
 use Rattle.derivations.proofs.Numbers.{In, before_of, in_cons, in_nil}
@@ -88,11 +89,12 @@ in_either j (x ∷ xs) ys h = elim (in_cons j x (xs ++ ys) h) [
 ]
 
 pub running_goes_on : (D : List Line) (k : ℕ) (l : Line) (kept kept' : List (Option (List (List ℕ)))) (B : List (List ℕ)) → k < length D → l ≡ get_or D k l → (r : Running D k kept)
-    → Kept r.lists (l.from ++ r.named) kept' → B ≡ blocks l.query l.step (lists_named r.lists l.from) → Meets l.query B → Running D (k + 1) (kept' ++ Some B ∷ [])
+    → length kept' ≡ length kept → ((j : ℕ) → All (λ i. i ≢ j + 1) l.from → slice_index_or kept' j None ≡ slice_index_or kept j None) → B ≡ blocks l.query l.step (lists_named r.lists l.from) → Meets l.query B → Running D (k + 1) (kept' ++ Some B ∷ [])
 unfolding lists_from
-running_goes_on D k l kept kept' B h e r t b m =
+running_goes_on D k l kept kept' B h e r size same b m =
     let d : drop k D ≡ l ∷ drop (k + 1) D = at_place D k l h e in
     let f : AreFine D (k + 1) r.named (l ∷ drop (k + 1) D) = subst (λ ys. AreFine D (k + 1) r.named ys) d r.fine in
+    let t : Kept r.lists (l.from ++ r.named) kept' = others_kept r.lists r.named l.from kept kept' r.left size same in
     let n : length r.lists ≡ k = answered-length r.before r.lists r.answered ∙ r.count in
     record {
       before = r.before ++ l ∷ [];
@@ -105,7 +107,7 @@ running_goes_on D k l kept kept' B h e r t b m =
       rest = r.rest ∙ ap (λ ys. lists_from r.lists ys) d ∙ ap (λ C. lists_from (r.lists ++ C ∷ []) (drop (k + 1) D)) (sym b);
       left = record {
         size = simp length-append (omega (arith, t.size));
-        held = λ j i a. held n j i a;
+        held = λ j i a. held t n j i a;
       };
       below = λ j i. elim (in_either j l.from r.named i) [
         | inl w ↦ (let s = tested (k + 1) l.from f.0.backward w.0 0 w.1 in omega (arith, s.1, w.2))
@@ -113,8 +115,8 @@ running_goes_on D k l kept kept' B h e r t b m =
       ];
     }
   where
-    held : length r.lists ≡ k → (j : ℕ) → j < length (r.lists ++ B ∷ []) → is_among (j + 1) (l.from ++ r.named) ≡ false → slice_index_or (kept' ++ Some B ∷ []) j None ≡ Some (slice_index_or (r.lists ++ B ∷ []) j [])
-    held n j i a = elim (cases_lt j (length r.lists)) [
+    held : Kept r.lists (l.from ++ r.named) kept' → length r.lists ≡ k → (j : ℕ) → j < length (r.lists ++ B ∷ []) → is_among (j + 1) (l.from ++ r.named) ≡ false → slice_index_or (kept' ++ Some B ∷ []) j None ≡ Some (slice_index_or (r.lists ++ B ∷ []) j [])
+    held t n j i a = elim (cases_lt j (length r.lists)) [
       | inl w ↦ get_or_append_left kept' (Some B ∷ []) None j (omega (arith, t.size)) ∙ t.held j w a ∙ ap Some (sym (get_or_append_left r.lists (B ∷ []) [] j w))
       | inr w ↦ (let q : j ≡ length r.lists = omega (arith, length-append r.lists (B ∷ [])) in
           snoc_last (Option (List (List ℕ))) kept' (Some B) None j (q ∙ sym t.size) ∙ ap Some (sym (snoc_last (List (List ℕ)) r.lists B [] j q)))
@@ -148,10 +150,25 @@ running_meets D k kept e h r q l =
     meets_at D [] (lists_from [] D) b (length D - 1) (omega arith) q (subst (λ E. question_at E (length D) ≡ Some q) (sym (append-nil D)) l)
 
 -- what is known of the next line, where the kept lists go by another name
+pub record Ready (D : List Line) (k : ℕ) (l : Line) (kept : List (Option (List (List ℕ)))) (lists : List (List (List ℕ))) (named : List ℕ) : Type 0 where
+  pub fine : IsFine D (k + 1) named l
+  pub each : All (λ j. (0 < j) × (j ≤ length kept)) l.from
+  pub are_there : All (IsKept kept) l.from
+  pub lists_are : kept_lists kept l.from ≡ lists_named lists l.from
+  pub ingredients : AllMeet (premises l.query l.step) (kept_lists kept l.from)
+
 pub ready : (D : List Line) (k : ℕ) (l : Line) (kept kept' : List (Option (List (List ℕ)))) → k < length D → l ≡ get_or D k l → kept' ≡ kept → (r : Running D k kept)
-    → Kept r.lists r.named kept' × Next D k l kept' r.lists r.named
+    → Ready D k l kept' r.lists r.named
 ready D k l kept kept' h e g r =
-    subst (λ Ks. Kept r.lists r.named Ks × Next D k l Ks r.lists r.named) (sym g) (r.left, next_line D k l kept h e r)
+    let n = next_line D k l kept h e r in
+    let same : kept_lists kept l.from ≡ lists_named r.lists l.from = kept_are r.lists r.named l.from kept r.left n.fine.once n.each in
+    subst (λ Ks. Ready D k l Ks r.lists r.named) (sym g) (record {
+      fine = n.fine;
+      each = n.each;
+      are_there = are_kept r.lists r.named l.from kept r.left n.fine.once n.each;
+      lists_are = same;
+      ingredients = subst (AllMeet (premises l.query l.step)) (sym same) n.ingredients;
+    })
 
 -- a list that was lent whole
 pub refilled : (X : Type 0) (n : ℕ) (xs ys : List X) → n ≡ length ys → length ys ≡ length xs → take n (ys ++ drop (length ys) xs) ≡ ys

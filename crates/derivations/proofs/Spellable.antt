@@ -7,7 +7,7 @@ use Rattle.design_base.specs.Limits.{HasFewDigits}
 use Rattle.design_base.specs.declared.limits.TheConstants.{DIGITS_MAX, PREMISES_MAX}
 use Rattle.design_base.specs.declared.query.Query.{Query}
 use Rattle.rule_table.proofs.Bounds.{both}
-use Rattle.rule_table.proofs.Few.{premises_few}
+use Rattle.rule_table.proofs.Passing.{premises_few}
 use Rattle.rule_table.proofs.Spelled.{candidate_kind}
 use Rattle.rule_table.specs.Candidates.{premises}
 use Rattle.derivations.specs.Derivations.{IsSound, answers, comes_before, fault, question_at}
@@ -31,7 +31,7 @@ answers-length D (i ∷ is) (p ∷ ps) e = split (question_at D i) (answers-leng
 
 -- not too many lines are named
 names_few : (D : List Line) (i : ℕ) (named : List ℕ) (l : Line) → IsFine D i named l → length l.from ≤ PREMISES_MAX
-names_few D i named l f = omega (arith, answers-length D l.from (premises l.query l.step) f.answered, premises_few l.query l.step)
+names_few D i named l f = omega (arith, answers-length D l.from (premises l.query l.step) f.answered, premises_few l.query l.step f.bounds f.candidate)
 
 each_few : (D : List Line) (i : ℕ) (named : List ℕ) (ls : List Line) → AreFine D i named ls → AllByRecursion (λ l. length l.from ≤ PREMISES_MAX) ls
 each_few D i named [] f = tt

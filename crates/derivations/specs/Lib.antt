@@ -1,4 +1,5 @@
 pub mod Same
+pub mod TdBlocks
 pub mod Blocks
 pub mod AllMeet
 pub mod Derivations

@@ -7,6 +7,7 @@ mod laws;
 mod line;
 mod names;
 mod replaying;
+mod td;
 mod unfolding;
 
 pub use laws::derivation_laws;

@@ -123,6 +123,29 @@ fn assert_derivations<L: Ledger>(
     );
     let (first, second) = ([0, 10, 20, 30], [0, 11, 26, 37]);
     assert_design(rt, alloc, tools, &lines, 4, 10, &first, &second);
+    assert_nested(rt, alloc, tools, &mut steps)
+}
+
+// A premise has premises itself.
+fn assert_nested<L: Ledger>(
+    rt: &impl Abort,
+    alloc: Global,
+    tools: &Tools,
+    steps: &mut Steps<L>,
+) -> Result<(), Memory> {
+    let lines = derived(rt, alloc, tools, steps, 4, 30)?;
+    assert_lines(
+        rt,
+        &lines,
+        &[
+            (4, 3, field(), &[]),
+            (4, 3, field(), &[]),
+            (4, 10, Step::new(Rule::Parker, 3, 0, 0, 0), &[2]),
+            (4, 30, Step::new(Rule::Product, 3, 10, 0, 0), &[1, 3]),
+        ],
+    );
+    let (first, second) = ([0, 30, 60, 90], [0, 31, 66, 97]);
+    assert_design(rt, alloc, tools, &lines, 4, 30, &first, &second);
     Ok(())
 }
 
@@ -156,6 +179,18 @@ fn lines_by_hand(rt: HostRuntime) -> Result<(), Fail> {
     )?;
     let (first, second) = ([0, 26, 54, 78], [0, 27, 73, 79]);
     assert_design(&rt, rt.alloc(), &tools, &lines, 4, 26, &first, &second);
+    assert_eq!(&rt; lines.as_slice().len(), 7);
+    Ok(())
+}
+
+#[test]
+fn more_numbers_than_stand_in_the_value(rt: HostRuntime) -> Result<(), Fail> {
+    let mut names = Names::new(rt.alloc());
+    for number in 1..11 {
+        names.push(number)?;
+    }
+    let all = [1, 2, 3, 4, 5, 6, 7, 8, 9, 10];
+    assert_eq!(&rt; names.as_slice(), all.as_slice());
     Ok(())
 }
 
@@ -299,6 +334,19 @@ fn faults_of_several_lines(rt: HostRuntime) -> Result<(), Fail> {
         ],
         4,
         LineFault::UsedTwice,
+    )?;
+    assert_fault(
+        &rt,
+        alloc,
+        &tools,
+        &[
+            plane(4, 3),
+            plane(4, 3),
+            (4, 9, nine, &[1, 2]),
+            (4, 9, nine, &[1, 2, 3]),
+        ],
+        4,
+        LineFault::MissingPremise,
     )?;
     assert_fault(
         &rt,

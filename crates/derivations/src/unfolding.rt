@@ -29,7 +29,7 @@ fn unfold<A: Asker, L: Ledger>(
     requires verdict { verdict q.now ≡ Yes step.now }
     ensures lines { OnOk result (lines.new ≡ lines.old ++ derivation_behind (length lines.old) q.now) }
     ensures memo { A.memo asker.new ≡ A.memo asker.old }
-    ensures told { KeptAfter (A.told asker.old) (A.told asker.new) steps.old steps.new }
+    ensures told { KeptAfter q.now (A.told asker.old) (A.told asker.new) steps.old steps.new }
 {
     let found = premises(tools, q, step);
     let asked = found.as_slice();
@@ -55,8 +55,8 @@ fn unfold<A: Asker, L: Ledger>(
 /// The unfolded verdict: for each premise in order its own lines, and then the line of the question.
 ///
 /// The question is in bounds, and its verdict is yes by this step. No line names more than `PREMISES_MAX` others. The answer is
-/// `Memory` only for want of memory. After it too the asker asks the same memo, keeps the cells that it knew, where it tells
-/// them, and has counted at most one step for each new one.
+/// `Memory` only for want of memory. After it too the asker asks the same memo, and where it tells the cells that it knows, it
+/// keeps them, has learned those of questions of smaller rank alone, and has counted at most one step for each new one.
 pub fn derive<A: Asker, L: Ledger>(
     alloc: Global,
     q: &Query,
@@ -73,7 +73,7 @@ pub fn derive<A: Asker, L: Ledger>(
     ensures question { IfOk result (λ lines. last_question lines ≡ Some q.now) }
     ensures design { IfOk result (λ lines. Meets q.now (replayed lines)) }
     ensures memo { A.memo asker.new ≡ A.memo asker.old }
-    ensures told { KeptAfter (A.told asker.old) (A.told asker.new) steps.old steps.new }
+    ensures told { KeptAfter q.now (A.told asker.old) (A.told asker.new) steps.old steps.new }
 {
     let mut lines = Derivation::new(alloc);
     unfold(alloc, q, step, tools, asker, steps, &mut lines)?;

@@ -1,5 +1,6 @@
 use Rattle.std.proofs.Common.{◌≡◌, map, take}
+use Rattle.derivations.specs.Kept.{kept_lists}
 use Rattle.derivations.proofs.replaying.lent.Given as goal
 
-abbrev pub invariant-loop-rows : goal.invariant-loop-rows
-invariant-loop-rows l = map (λ r. r.now) l.refs.items ≡ take l.rows-index l.lists
+abbrev pub invariant-loop-number : goal.invariant-loop-number
+invariant-loop-number l = map (λ r. r.now) l.refs.items ≡ kept_lists l.kept (take l.number-index l.from)

@@ -11,5 +11,5 @@ abbrev pub invariant-loop-premise : goal.invariant-loop-premise
 invariant-loop-premise g l = record {
   unfolds : Unfolding l.fn.lines l.asked l.premise-index l.lines l.from;
   memo : g.A.Asker.memo l.asker ≡ g.A.Asker.memo l.fn.asker;
-  told : KeptAfter (g.A.Asker.told l.fn.asker) (g.A.Asker.told l.asker) l.fn.steps l.steps;
+  told : KeptAfter l.q (g.A.Asker.told l.fn.asker) (g.A.Asker.told l.asker) l.fn.steps l.steps;
 }
