@@ -49,7 +49,14 @@ pub fn td_of_rows(alloc: Global, k: u16, n: u16, rows: &Rows) -> Result<Rows, Ar
 
 // The row of cell `x`, `y`: these two, and the symbols that the `m` squares of order `n` have in row `x` and column `y`.
 #[tactic(auto, using(crate::proofs::Steps::steps))]
-fn cell_row(alloc: Global, m: u16, n: u16, squares: &Rows, x: u16, y: u16) -> Result<Vec<u16>, Memory>
+fn cell_row(
+    alloc: Global,
+    m: u16,
+    n: u16,
+    squares: &Rows,
+    x: u16,
+    y: u16,
+) -> Result<Vec<u16>, Memory>
     requires cell { (x < n) × (y < n) }
     requires count { length squares.now ≡ m * n }
     requires shape { All (IsRow n n) squares.now }
@@ -165,7 +172,7 @@ mod tests {
     }
 
     #[test]
-    #[tactic(auto, using(crate::proofs::Samples::six_lines_mols), unfolding(design_base::specs::Limits::in_bounds))]
+    #[tactic(auto, using(crate::proofs::Samples::six_rows_mols), unfolding(design_base::specs::Limits::in_bounds))]
     fn squares_and_back(rt: HostRuntime) -> Result<(), Fail> {
         let alloc = rt.alloc();
         let list = [
@@ -190,6 +197,22 @@ mod tests {
         ];
         assert_rows(&rt, &td, &blocks);
         assert_rows(&rt, &squares_of_td(alloc, 4, 3, &td)?, &list);
+        Ok(())
+    }
+
+    #[test]
+    #[tactic(auto, unfolding(design_base::specs::Limits::in_bounds))]
+    fn too_many_rows(rt: HostRuntime) -> Result<(), Fail> {
+        let alloc = rt.alloc();
+        let list = [[1, 1, 0], [0, 0, 0], [0, 1, 1], [1, 1, 0], [1, 0, 1]];
+        let td = td_of_rows(alloc, 3, 2, &packed(alloc, &list)?)?;
+        assert_rows(
+            &rt,
+            &td,
+            &[[0, 2, 4], [0, 3, 5], [1, 2, 5], [1, 3, 4], [1, 3, 4]],
+        );
+        let long = td_of_rows(alloc, 3, 2, &packed(alloc, &[[0, 0, 0, 0]])?);
+        assert_eq!(rt; long.err(), Some(ArrayEnd::BadLine { index: 1 }));
         Ok(())
     }
 

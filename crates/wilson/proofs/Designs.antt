@@ -1,16 +1,12 @@
 -- What the builders give are transversal designs.
 use Rattle.std.proofs.Common.{List, [], ap, arith, drop, get_or, length, map, refl, subst, suc, sym, zero, ℕ, ◌*◌, ◌+◌, ◌<◌, ◌∙◌, ◌≡◌, ◌≢◌, ◌≤◌}
 use Rattle.std.proofs.Math.Nat.{mul-le-mul_left}
-use Rattle.std.proofs.lemmas.List.{length-drop, length-map}
-use Rattle.std.proofs.lemmas.List.Edits.{length-remove}
-use Rattle.std.proofs.lemmas.Nat.{mul-le}
 use Rattle.std.specs.List.{remove}
 use Rattle.std.specs.Prelude.{All}
 use Rattle.design_base.proofs.Groups.{oa_from_td}
 use Rattle.design_base.specs.Arrays.{IsOa, IsRow, rows_of_blocks}
 use Rattle.design_base.specs.Blocks.{IsTd}
 use Rattle.design_base.specs.Canonical.{canonical}
-use Rattle.design_base.specs.declared.limits.TheConstants.{TD_N_MAX}
 use Rattle.incidence.proofs.RowsAndBlocks.{length_of_td}
 use Rattle.transversal.proofs.Designs.{td_of_oa}
 use Rattle.wilson.proofs.Apart.{first_apart-below, first_apart-differs}
@@ -18,7 +14,7 @@ use Rattle.wilson.proofs.HoledArray.{holed_is, holed_twice_is}
 use Rattle.wilson.proofs.OneGroup.{wilson_one_is_oa}
 use Rattle.wilson.proofs.TwoGroups.{wilson_two_is_oa}
 use Rattle.wilson.specs.Conditions.{CanTruncateOnce, CanTruncateTwice}
-use Rattle.wilson.specs.Holes.{first_apart, holed, holed_twice, renumbered_row, renumbered_row_twice}
+use Rattle.wilson.specs.Holes.{first_apart, holed, holed_twice, renumbered_row_twice}
 use Rattle.wilson.specs.Truncations.{wilson_one_blocks, wilson_one_rows, wilson_two_blocks, wilson_two_rows}
 
 -- ---- the stated lists, wherever the construction has what it needs

@@ -1,5 +1,5 @@
 -- The lists of Wilson's constructions have room.
-use Rattle.std.proofs.Common.{List, ap, arith, length, subst, sym, ℕ, ◌*◌, ◌++◌, ◌+◌, ◌<◌, ◌∙◌, ◌≡◌, ◌≤◌}
+use Rattle.std.proofs.Common.{List, ap, arith, length, ℕ, ◌*◌, ◌++◌, ◌+◌, ◌<◌, ◌∙◌, ◌≡◌, ◌≤◌}
 use Rattle.std.proofs.lemmas.List.{length-append}
 use Rattle.std.specs.List.{flat_map}
 use Rattle.design_base.specs.Arrays.{IsOa, blocks_of_rows}

@@ -9,7 +9,7 @@ pub push_products_of-requires-clause-room : goal.push_products_of-requires-claus
 push_products_of-requires-clause-room c = omega (
   arith,
   room_next c.args.k (c.args.a * c.args.b) c.loop-row.rows c.args.rows.now (products_of c.args.k c.args.b c.args.second.now c.in-Some.row.now)
-    (product_rows c.args.k c.args.b c.next.new.self c.args.second.now) (product_rows c.args.k c.args.b c.args.first.now c.args.second.now) (grind (arith, steps)),
+      (product_rows c.args.k c.args.b c.next.new.self c.args.second.now) (product_rows c.args.k c.args.b c.args.first.now c.args.second.now) (grind (arith, steps)),
   c.requires.room,
 )
 

@@ -9,7 +9,7 @@ pub push_product-requires-clause-room : goal.push_product-requires-clause-room
 push_product-requires-clause-room c = omega (
   arith,
   room_next c.args.k (c.args.a * c.args.b) c.loop-row.rows c.args.rows.now (product_row c.args.k c.args.b c.args.first.now c.in-Some.row.now ∷ [])
-    (products_of c.args.k c.args.b c.next.new.self c.args.first.now) (products_of c.args.k c.args.b c.args.second.now c.args.first.now) (grind (arith, steps)),
+      (products_of c.args.k c.args.b c.next.new.self c.args.first.now) (products_of c.args.k c.args.b c.args.second.now c.args.first.now) (grind (arith, steps)),
   c.requires.room,
 )
 

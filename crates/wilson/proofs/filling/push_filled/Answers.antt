@@ -9,7 +9,7 @@ pub push_filled_row-requires-clause-room : goal.push_filled_row-requires-clause-
 push_filled_row-requires-clause-room c = omega (
   arith,
   room_next c.args.k c.args.n c.loop-row.rows c.args.rows.now (filled_row c.args.k c.args.m c.args.infinite.now c.args.master.now c.in-Some.row.now ∷ [])
-    (filled_rows c.args.k c.args.m c.args.infinite.now c.args.master.now c.next.new.self) (filled_rows c.args.k c.args.m c.args.infinite.now c.args.master.now c.args.ingredient.now) (grind (arith, steps)),
+      (filled_rows c.args.k c.args.m c.args.infinite.now c.args.master.now c.next.new.self) (filled_rows c.args.k c.args.m c.args.infinite.now c.args.master.now c.args.ingredient.now) (grind (arith, steps)),
   ap (λ rows. (c.args.k + 1) * rows) (filled_rows_length c.args.k c.args.m c.args.infinite.now c.args.master.now c.args.ingredient.now),
   c.requires.room,
 )

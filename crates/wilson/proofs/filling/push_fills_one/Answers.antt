@@ -10,7 +10,7 @@ pub push_fill_one-requires-clause-room : goal.push_fill_one-requires-clause-room
 push_fill_one-requires-clause-room c = omega (
   arith,
   room_next c.args.k (c.args.m * c.args.t + c.args.u) c.loop-row.rows c.args.rows.now (fill_one c.args.k c.args.m c.args.t c.args.u c.args.small.now c.args.large.now c.in-Some.row.now)
-    (flat_map (fill_one c.args.k c.args.m c.args.t c.args.u c.args.small.now c.args.large.now) c.next.new.self) (flat_map (fill_one c.args.k c.args.m c.args.t c.args.u c.args.small.now c.args.large.now) c.args.master.now) (grind (arith, steps)),
+      (flat_map (fill_one c.args.k c.args.m c.args.t c.args.u c.args.small.now c.args.large.now) c.next.new.self) (flat_map (fill_one c.args.k c.args.m c.args.t c.args.u c.args.small.now c.args.large.now) c.args.master.now) (grind (arith, steps)),
   c.requires.room,
 )
 

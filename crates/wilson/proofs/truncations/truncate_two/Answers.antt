@@ -24,10 +24,10 @@ push_fills_two-requires-clause-room c = omega (
   arith,
   ap size_of c.in_ok-rows.ensures,
   two_fits c.args.k c.args.m c.args.t c.args.u c.args.w c.in_ok-master.master c.in_ok-small.small c.in_ok-large.large c.in_ok-larger.larger c.in_ok-first.first c.in_ok-second.second
-    c.in_ok-holed_large.holed_large c.in_ok-holed_larger.holed_larger
-    c.requires.two_groups c.requires.one_symbol c.requires.few_groups c.requires.first_kept c.requires.second_kept
-    c.in_ok-master.ensures.array c.in_ok-small.ensures.array c.in_ok-large.ensures.array c.in_ok-larger.ensures.array c.in_ok-first.ensures.array c.in_ok-second.ensures.array
-    (omega (arith, c.requires.groups)) c.requires.points c.in_ok-holed_large.ensures.without c.in_ok-holed_larger.ensures.without,
+      c.in_ok-holed_large.holed_large c.in_ok-holed_larger.holed_larger
+      c.requires.two_groups c.requires.one_symbol c.requires.few_groups c.requires.first_kept c.requires.second_kept
+      c.in_ok-master.ensures.array c.in_ok-small.ensures.array c.in_ok-large.ensures.array c.in_ok-larger.ensures.array c.in_ok-first.ensures.array c.in_ok-second.ensures.array
+      (omega (arith, c.requires.groups)) c.requires.points c.in_ok-holed_large.ensures.without c.in_ok-holed_larger.ensures.without,
 )
 
 pub push_raised-requires-clause-room : goal.push_raised-requires-clause-room
@@ -36,10 +36,10 @@ push_raised-requires-clause-room c = omega (
   ap size_of c.in_ok-rows.ensures,
   size_of_more c.args.k (c.args.m * c.args.t + c.args.u + c.args.w) _ _ _ c.in_ok-push_fills_two.ensures,
   two_fits c.args.k c.args.m c.args.t c.args.u c.args.w c.in_ok-master.master c.in_ok-small.small c.in_ok-large.large c.in_ok-larger.larger c.in_ok-first.first c.in_ok-second.second
-    c.in_ok-holed_large.holed_large c.in_ok-holed_larger.holed_larger
-    c.requires.two_groups c.requires.one_symbol c.requires.few_groups c.requires.first_kept c.requires.second_kept
-    c.in_ok-master.ensures.array c.in_ok-small.ensures.array c.in_ok-large.ensures.array c.in_ok-larger.ensures.array c.in_ok-first.ensures.array c.in_ok-second.ensures.array
-    (omega (arith, c.requires.groups)) c.requires.points c.in_ok-holed_large.ensures.without c.in_ok-holed_larger.ensures.without,
+      c.in_ok-holed_large.holed_large c.in_ok-holed_larger.holed_larger
+      c.requires.two_groups c.requires.one_symbol c.requires.few_groups c.requires.first_kept c.requires.second_kept
+      c.in_ok-master.ensures.array c.in_ok-small.ensures.array c.in_ok-large.ensures.array c.in_ok-larger.ensures.array c.in_ok-first.ensures.array c.in_ok-second.ensures.array
+      (omega (arith, c.requires.groups)) c.requires.points c.in_ok-holed_large.ensures.without c.in_ok-holed_larger.ensures.without,
 )
 
 pub push_raised-requires-2-clause-room : goal.push_raised-requires-2-clause-room
@@ -50,10 +50,10 @@ push_raised-requires-2-clause-room c = omega (
   size_of_more c.args.k _ _ _ _ c.in_ok-push_raised.ensures,
   ap (λ n. (c.args.k + 1) * n) (length-raised (c.args.m * c.args.t) c.in_ok-first.first),
   two_fits c.args.k c.args.m c.args.t c.args.u c.args.w c.in_ok-master.master c.in_ok-small.small c.in_ok-large.large c.in_ok-larger.larger c.in_ok-first.first c.in_ok-second.second
-    c.in_ok-holed_large.holed_large c.in_ok-holed_larger.holed_larger
-    c.requires.two_groups c.requires.one_symbol c.requires.few_groups c.requires.first_kept c.requires.second_kept
-    c.in_ok-master.ensures.array c.in_ok-small.ensures.array c.in_ok-large.ensures.array c.in_ok-larger.ensures.array c.in_ok-first.ensures.array c.in_ok-second.ensures.array
-    (omega (arith, c.requires.groups)) c.requires.points c.in_ok-holed_large.ensures.without c.in_ok-holed_larger.ensures.without,
+      c.in_ok-holed_large.holed_large c.in_ok-holed_larger.holed_larger
+      c.requires.two_groups c.requires.one_symbol c.requires.few_groups c.requires.first_kept c.requires.second_kept
+      c.in_ok-master.ensures.array c.in_ok-small.ensures.array c.in_ok-large.ensures.array c.in_ok-larger.ensures.array c.in_ok-first.ensures.array c.in_ok-second.ensures.array
+      (omega (arith, c.requires.groups)) c.requires.points c.in_ok-holed_large.ensures.without c.in_ok-holed_larger.ensures.without,
 )
 
 pub returns-clause-blocks : goal.returns-clause-blocks
