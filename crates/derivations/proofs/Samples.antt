@@ -1,6 +1,6 @@
 -- Small values of the definitions, computed.
 use Rattle.std.proofs.Common.{◌≡◌, ℕ, List, [], ◌∷◌, refl}
-use Rattle.std.specs.Prelude.{Option, None}
+use Rattle.std.specs.Prelude.{None}
 use Rattle.counting.specs.Search.{each_passes, first_in, is_among}
 use Rattle.counting.specs.Sorting.{insert_by, sort_by}
 use Rattle.counting.specs.Sums.{join_below}
@@ -22,7 +22,6 @@ use Rattle.transversal.specs.Constructions.{cyclic_row, cyclic_rows, rows_below}
 use Rattle.derivations.specs.Blocks.{blocks, built}
 use Rattle.derivations.specs.Derivations.{answers, derivation, derivation_behind, fault, fault_at, fault_from, fault_of_line, line, lists_from, parts, replayed, surplus_from, unfolded, used_twice}
 use Rattle.derivations.specs.TdBlocks.{td_blocks}
-use Rattle.derivations.specs.declared.line.Fault.{Fault}
 use Rattle.derivations.specs.declared.line.Line.{Line}
 use Rattle.derivations.specs.declared.line.LineFault.TheVariants.{OutOfBounds, NotCandidate, ForwardReference, MissingPremise, UsedTwice, Surplus}
 

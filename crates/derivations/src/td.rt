@@ -1,6 +1,7 @@
 // The transversal designs of steps.
 ghost use Rattle.std.specs.Prelude.{◌≡◌, map, IfOk};
 ghost use Rattle.design_base.specs.Canonical.{canonical};
+ghost use Rattle.design_base.specs.declared.rule.Rule.TheVariants.{Wilson2};
 ghost use Rattle.transversal.specs.Conditions.{CanBuildField};
 ghost use Rattle.transversal.specs.Constructions.{field_blocks};
 ghost use Rattle.derivations.specs.TdBlocks.{td_blocks, CanBuildTd};
@@ -23,7 +24,30 @@ fn field_list(alloc: Global, k: u16, n: u16) -> Result<Rows, Memory>
     }
 }
 
-// The transversal design with `k` groups of `n` points that a rule with the parameters `a`, `b`, `c` and `d` makes of the ingredients.
+// The transversal design of a step by `wilson2`, by its parameters.
+#[tactic(auto, unfolding(crate::specs::TdBlocks::CanBuildTd))]
+fn truncated_twice(
+    alloc: Global,
+    k: u16,
+    n: u16,
+    m: u16,
+    t: u16,
+    u: u16,
+    w: u16,
+    ingredients: &[&Rows],
+) -> Result<Rows, Memory>
+    requires { CanBuildTd k n Wilson2 m t u w (map (λ r. r.now) ingredients.now) }
+    ensures { IfOk result (λ rows. rows ≡ canonical (td_blocks k n Wilson2 m t u w (map (λ r. r.now) ingredients.now))) }
+{
+    let [master, small, large, larger, first, second] = ingredients else {
+        unreachable!()
+    };
+    truncate_two(
+        alloc, k, m, t, u, w, master, small, large, larger, first, second,
+    )
+}
+
+// The transversal design with `k` groups of `n` points of a step whose construction has what it needs. A rule is one arm.
 #[tactic(auto, unfolding(crate::specs::TdBlocks::td_blocks, crate::specs::TdBlocks::CanBuildTd))]
 pub(crate) fn build_td(
     alloc: Global,
@@ -45,9 +69,7 @@ pub(crate) fn build_td(
         (Rule::Wilson1, [master, small, large, rest]) => truncate_one(
             alloc, k, a, b, c, master, small, large, rest,
         ),
-        (Rule::Wilson2, [master, small, large, larger, first, second]) => truncate_two(
-            alloc, k, a, b, c, d, master, small, large, larger, first, second,
-        ),
+        (Rule::Wilson2, _) => truncated_twice(alloc, k, n, a, b, c, d, ingredients),
         _ => unreachable!(),
     }
 }
