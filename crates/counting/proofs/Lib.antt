@@ -4,3 +4,4 @@ pub mod Ranges
 pub mod Sorting
 pub mod Residues
 pub mod OnePlace
+pub mod Grids
