@@ -5,3 +5,5 @@ pub mod Sorting
 pub mod Residues
 pub mod OnePlace
 pub mod Grids
+pub mod ButOne
+pub mod Squares
