@@ -1,6 +1,5 @@
 // The rows and the squares of a transversal design.
-ghost use Rattle.std.specs.Prelude.{◌≡◌, ◌≤◌, ◌<◌, ◌+◌, ◌-◌, ◌*◌, ◌/◌, ◌%◌, ◌++◌, ℕ, true, All, IfOk, OnOk, length, map, slice_index, slice_index_or};
-ghost use Rattle.counting.specs.Sums.{list_below};
+ghost use Rattle.std.specs.Prelude.{◌≡◌, ◌<◌, ◌+◌, ◌-◌, ◌*◌, ◌++◌, true, All, IfOk, OnOk, length};
 ghost use Rattle.design_base.specs.Arrays.{IsOa, rows_of_blocks};
 ghost use Rattle.design_base.specs.Blocks.{IsTd};
 ghost use Rattle.design_base.specs.Limits.{in_bounds};

@@ -7,7 +7,7 @@ use Rattle.counting.specs.Sums.{join_below}
 use Rattle.criteria.specs.Criteria.{reasons, reason_of}
 use Rattle.design_base.specs.Arrays.{blocks_of_rows, place, row_block}
 use Rattle.design_base.specs.Canonical.{canonical, lex_le}
-use Rattle.design_base.specs.Fields.{shapes, shape_of}
+use Rattle.design_base.specs.Fields.{moduli, modulus_of}
 use Rattle.design_base.specs.Limits.{in_bounds}
 use Rattle.design_base.specs.Steps.{step}
 use Rattle.design_base.specs.declared.query.Query.TheVariants.{Td}
@@ -33,35 +33,35 @@ abbrev twelve : ℕ → List ℕ → Line
 twelve n from = line (Td 4 n) (step Product 3 4 0 0) from
 
 sound : fault (plane 3 ∷ plane 4 ∷ twelve 12 (1 ∷ 2 ∷ []) ∷ []) ≡ None
-unfolding fault fault_from fault_of_line in_bounds is_candidate terms td_terms allows premises premises_at answers used_twice is_among surplus_from first_in shapes shape_of
+unfolding fault fault_from fault_of_line in_bounds is_candidate terms td_terms allows premises premises_at answers used_twice is_among surplus_from first_in moduli modulus_of
 sound = refl
 
 out_of_bounds : fault (plane 3 ∷ plane 1000 ∷ []) ≡ fault_at 2 OutOfBounds
-unfolding fault fault_from fault_of_line in_bounds is_candidate terms td_terms allows premises premises_at answers used_twice is_among surplus_from first_in shapes shape_of
+unfolding fault fault_from fault_of_line in_bounds is_candidate terms td_terms allows premises premises_at answers used_twice is_among surplus_from first_in moduli modulus_of
 out_of_bounds = refl
 
 not_a_candidate : fault (plane 3 ∷ plane 4 ∷ twelve 13 (1 ∷ 2 ∷ []) ∷ []) ≡ fault_at 3 NotCandidate
-unfolding fault fault_from fault_of_line in_bounds is_candidate terms td_terms allows premises premises_at answers used_twice is_among surplus_from first_in shapes shape_of
+unfolding fault fault_from fault_of_line in_bounds is_candidate terms td_terms allows premises premises_at answers used_twice is_among surplus_from first_in moduli modulus_of
 not_a_candidate = refl
 
 forward_reference : fault (plane 3 ∷ twelve 12 (1 ∷ 3 ∷ []) ∷ plane 4 ∷ []) ≡ fault_at 2 ForwardReference
-unfolding fault fault_from fault_of_line in_bounds is_candidate terms td_terms allows premises premises_at answers used_twice is_among surplus_from first_in shapes shape_of
+unfolding fault fault_from fault_of_line in_bounds is_candidate terms td_terms allows premises premises_at answers used_twice is_among surplus_from first_in moduli modulus_of
 forward_reference = refl
 
 missing_premise : fault (plane 4 ∷ plane 3 ∷ twelve 12 (1 ∷ 2 ∷ []) ∷ []) ≡ fault_at 3 MissingPremise
-unfolding fault fault_from fault_of_line in_bounds is_candidate terms td_terms allows premises premises_at answers used_twice is_among surplus_from first_in shapes shape_of
+unfolding fault fault_from fault_of_line in_bounds is_candidate terms td_terms allows premises premises_at answers used_twice is_among surplus_from first_in moduli modulus_of
 missing_premise = refl
 
 used_twice_there : fault (plane 3 ∷ line (Td 4 9) (step Product 3 3 0 0) (1 ∷ 1 ∷ []) ∷ []) ≡ fault_at 2 UsedTwice
-unfolding fault fault_from fault_of_line in_bounds is_candidate terms td_terms allows premises premises_at answers used_twice is_among surplus_from first_in shapes shape_of
+unfolding fault fault_from fault_of_line in_bounds is_candidate terms td_terms allows premises premises_at answers used_twice is_among surplus_from first_in moduli modulus_of
 used_twice_there = refl
 
 surplus_line : fault (plane 3 ∷ plane 4 ∷ plane 5 ∷ twelve 12 (1 ∷ 2 ∷ []) ∷ []) ≡ fault_at 3 Surplus
-unfolding fault fault_from fault_of_line in_bounds is_candidate terms td_terms allows premises premises_at answers used_twice is_among surplus_from first_in shapes shape_of
+unfolding fault fault_from fault_of_line in_bounds is_candidate terms td_terms allows premises premises_at answers used_twice is_among surplus_from first_in moduli modulus_of
 surplus_line = refl
 
 derivation_of_ten : derivation (Td 4 10) ≡ plane 3 ∷ line (Td 4 10) (step Parker 3 0 0 0) (1 ∷ []) ∷ []
-unfolding derivation derivation_behind unfolded parts verdict verdict_below judged reasons reason_of candidates terms td_terms choices in_bounds join_below premises premises_at first_in each_passes shapes shape_of rank
+unfolding derivation derivation_behind unfolded parts verdict verdict_below judged reasons reason_of candidates terms td_terms choices in_bounds join_below premises premises_at first_in each_passes moduli modulus_of rank
 derivation_of_ten = refl
 
 replayed_of_two : replayed (line (Td 3 2) (step Cyclic 0 0 0 0) [] ∷ []) ≡ (0 ∷ 2 ∷ 4 ∷ []) ∷ (0 ∷ 3 ∷ 5 ∷ []) ∷ (1 ∷ 2 ∷ 5 ∷ []) ∷ (1 ∷ 3 ∷ 4 ∷ []) ∷ []

@@ -1,7 +1,7 @@
 ghost use Rattle.std.specs.Prelude.{◌≡◌, ◌≤◌, true, ◌↔◌, length};
 ghost use Rattle.std.specs.List.{AllByRecursion, Contains};
 ghost use Rattle.design_base.specs.declared.limits.TheConstants.{PARAMETER_MAX, PREMISES_MAX};
-ghost use Rattle.design_base.specs.Limits.{in_bounds, within};
+ghost use Rattle.design_base.specs.Limits.{in_bounds};
 ghost use Rattle.design_base.specs.Rules.{title};
 ghost use Rattle.rule_table.specs.Candidates.{candidates, premises as premises_of, is_candidate as is_candidate_of};
 ghost use Rattle.rule_table.specs.Table.{terms};
@@ -14,15 +14,8 @@ use crate::table::next_of;
 use crate::taken::Taken;
 use crate::tools::Tools;
 use crate::walk::are_in_bounds;
-use design_base::{Query, Rule, Step};
+use design_base::{Query, Rule, Step, is_within};
 use smallvec::SmallVec;
-
-// Whether a number lies in a range.
-fn is_within(low: u16, high: u16, x: u16) -> bool
-    ensures { result ≡ within low high x }
-{
-    low <= x && x <= high
-}
 
 // Whether the table allows the rest of the parameters.
 #[tactic(auto, using(crate::proofs::Members::allows_laws))]
