@@ -1,5 +1,5 @@
 -- What is said of blocks is so: those of each yes are such a design, and exactly such are found valid.
-use Rattle.std.proofs.Common.{◌≡◌, ◌↔◌, ℕ, ◌+◌, ◌-◌, List, Option, Some, None, true, ap, arith, refl, subst, sym}
+use Rattle.std.proofs.Common.{◌≡◌, ◌↔◌, ℕ, ◌+◌, ◌-◌, List, Option, Some, None, ap, arith, refl, subst, sym}
 use Rattle.arrays.proofs.Bounds.{td_bounds}
 use Rattle.arrays.proofs.Passages.{td_iff_oa}
 use Rattle.arrays.proofs.Shapes.{none_from_rows, none_from_squares, rows_from_none, squares_from_none}
@@ -9,59 +9,24 @@ use Rattle.arrays.specs.Lines.{bad_line, bad_row}
 use Rattle.design_base.specs.Arrays.{IsOa, blocks_of_rows}
 use Rattle.design_base.specs.Blocks.{IsTd}
 use Rattle.design_base.specs.Canonical.{canonical}
-use Rattle.design_base.specs.Limits.{in_bounds}
-use Rattle.design_base.specs.Meets.{Meets}
 use Rattle.derivations.proofs.Sound.{yes_has_a_design}
 use Rattle.rule_table.proofs.Turns.{none_meets}
 use Rattle.rule_table.specs.Verdicts.{is_yes, verdict}
 use Rattle.design_base.specs.Squares.{IsMols}
-use Rattle.design_base.specs.Steps.{Step}
-use Rattle.design_base.specs.declared.query.Query.{Query}
 use Rattle.design_checks.specs.declared.finding.Finding.{Finding}
 use Rattle.design_checks.specs.declared.finding.Finding.TheVariants.{Valid}
 use Rattle.design_cli.specs.LineFindings.{line_finding}
-use Rattle.design_base.specs.declared.query.Query.TheVariants.{Td, Df, Bibd, Gdd, Pbd}
-use Rattle.design_base.specs.declared.verdict.Verdict.{Verdict}
-use Rattle.design_base.specs.declared.verdict.Verdict.TheVariants.{Yes, No, Unknown}
+use Rattle.design_base.specs.declared.query.Query.TheVariants.{Td}
 use Rattle.design_checks.proofs.Meeting.{found_meets}
 use Rattle.design_checks.specs.Findings.{finding}
-use Rattle.design_cli.proofs.Choices.{yes_designed}
 use Rattle.design_cli.specs.Report.{EachValidAreSquares, EachValidIsArray, EachValidIsDesign}
-use Rattle.design_cli.specs.Chosen.{EachNoHasNone, EachYesIsDesigned, HasNone, IsDesigned, blocks_at, chosen}
-
-bibd_designed : (v k l : ℕ) (o : Option Verdict) → chosen (Bibd v k l) ≡ o → IsDesigned (Bibd v k l) o
-bibd_designed v k l None is = tt
-bibd_designed v k l (Some (Yes s)) is = yes_designed v k l s is
-bibd_designed v k l (Some (No criterion)) is = tt
-bibd_designed v k l (Some Unknown) is = tt
-
-td_designed : (k n : ℕ) → in_bounds (Td k n) ≡ true → (told : Verdict) → verdict (Td k n) ≡ told → IsDesigned (Td k n) (Some told)
-td_designed k n bounds (Yes s) is = yes_has_a_design (Td k n) bounds (ap is_yes is)
-td_designed k n bounds (No criterion) is = tt
-td_designed k n bounds Unknown is = tt
+use Rattle.design_cli.specs.Decided.{EachNoHasNone, EachYesIsDesigned}
 
 pub each_yes_is_designed : EachYesIsDesigned
-each_yes_is_designed (Td k n) bounds = td_designed k n bounds (verdict (Td k n)) refl
-each_yes_is_designed (Df group v k l) bounds = tt
-each_yes_is_designed (Bibd v k l) bounds = bibd_designed v k l (chosen (Bibd v k l)) refl
-each_yes_is_designed (Gdd k g u) bounds = tt
-each_yes_is_designed (Pbd v s) bounds = tt
-
-td_none : (k n : ℕ) → in_bounds (Td k n) ≡ true → (told : Verdict) → told ≡ verdict (Td k n) → HasNone (Td k n) (Some told)
-td_none k n bounds (Yes s) is = tt
-td_none k n bounds (No criterion) is = none_meets (Td k n) criterion (No criterion) bounds is refl
-td_none k n bounds Unknown is = tt
+each_yes_is_designed q bounds s is = yes_has_a_design q bounds (ap is_yes is)
 
 pub each_no_has_none : EachNoHasNone
-each_no_has_none (Td k n) bounds = td_none k n bounds (verdict (Td k n)) refl
-each_no_has_none (Df group v k l) bounds = tt
-each_no_has_none (Bibd v k l) bounds = tt
-each_no_has_none (Gdd k g u) bounds = tt
-each_no_has_none (Pbd v s) bounds = tt
-
--- the blocks of a step that answers a question are such a design
-pub made_designed : (q : Query) (s : Step) (B : List (List ℕ)) → in_bounds q ≡ true → chosen q ≡ Some (Yes s) → B ≡ blocks_at q s → Meets q B
-made_designed q s B bounds is made = subst (Meets q) (sym made) (subst (IsDesigned q) is (each_yes_is_designed q bounds))
+each_no_has_none q bounds criterion is B = none_meets q criterion (verdict q) bounds refl is B
 
 pub each_valid_is_design : EachValidIsDesign
 each_valid_is_design q B = found_meets q B (finding q B) refl
@@ -94,4 +59,4 @@ each_valid_are_squares k n bounds L =
     valid_lines (bad_line (k - 2) n L) (finding (Td k n) B) (IsTd B k n) (IsMols L n (k - 2))
     (λ none. found_meets (Td k n) B (finding (Td k n) B) refl)
     (λ none. let shape = squares_from_none (k - 2) n L none in td_iff_mols k (k - 2) n L columns shape.0 shape.1 b.positive)
-    (λ mols. none_from_squares (k - 2) n L mols.count mols.lines)
+    (λ mols. none_from_squares (k - 2) n L mols.count mols.rows)

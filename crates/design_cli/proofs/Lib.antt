@@ -1,12 +1,7 @@
-pub mod Words
-pub mod Outputs
 pub mod BlockTexts
 pub mod Endings
-pub mod LineDesigns
-pub mod Choices
-pub mod Printable
 pub mod Reasons
 pub mod Shortened
 pub mod ShortBlocks
-pub mod Sizes
 pub mod Designed
+mod Samples

@@ -21,9 +21,10 @@ use Rattle.design_lines.specs.declared.command.Shape.{Shape}
 use Rattle.design_lines.specs.declared.command.Shape.TheVariants.{Blocks, Rows, Squares}
 use Rattle.design_cli.specs.BlockText.{BlockText, bad_line, blocks, shortened, shortest_line, until_short}
 use Rattle.design_cli.specs.LineFindings.{line_finding, lines_finding}
-use Rattle.design_cli.specs.Report.{text_report, found_report}
-use Rattle.design_cli.specs.Runs.{EndsWith}
-use Rattle.design_cli.specs.declared.ending.Ending.{Ending}
+use Rattle.design_cli.specs.Report.{text_report}
+use Rattle.design_reports.specs.Answers.{EndsWith}
+use Rattle.design_reports.specs.Reports.{found_report}
+use Rattle.design_reports.specs.declared.ending.Ending.{Ending}
 use Rattle.design_cli.specs.declared.checking.TheConstants.{SHORTEST_BLOCK}
 use Rattle.design_cli.proofs.Shortened.{is_short, none_short}
 

@@ -1,9 +1,6 @@
-pub mod Endings
 pub mod BlockText
-pub mod Texts
-pub mod Parts
 pub mod LineFindings
-pub mod Chosen
+pub mod Decided
 pub mod Designs
 pub mod Report
 pub mod Runs

@@ -1,56 +1,47 @@
--- How a run ends, against its report.
-use Rattle.std.specs.Prelude.{◌≡◌, ◌≢◌, ℕ, ◌⊎◌, List, Option, Some, IfSome}
-use Rattle.std.specs.Option.{option_map}
-use Rattle.std.specs.Io.KnownBytes.{Appends, Keeps}
-use Rattle.design_io.specs.Faults.{Rose}
-use Rattle.design_io.specs.Pieces.{AppendsPart}
-use Rattle.design_cli.specs.declared.ending.Ending.{Ending}
-use Rattle.design_cli.specs.declared.ending.Ending.TheVariants.{NoMemory as WantOfMemory, ReadFault as FailedRead, WriteFault as FailedWrite}
-use Rattle.design_cli.specs.declared.status.Status.{Status}
-use Rattle.design_cli.specs.declared.status.Status.TheVariants.{Usage, NoMemory, ReadFault, WriteFault}
-use Rattle.design_cli.specs.Endings.{status_of, message_of}
-use Rattle.design_cli.specs.Report.{Report, output}
+-- How a run ends, against the report on its input.
+use Rattle.std.specs.Prelude.{◌≡◌, ◌↔◌, ℕ, List, Option, Result}
+use Rattle.std.specs.Io.KnownBytes.{Keeps}
+use Rattle.design_io.specs.Inputs.{IsInput}
+use Rattle.design_lines.specs.declared.command.Command.{Command}
+use Rattle.design_lines.specs.declared.command.Reason.{Reason}
+use Rattle.design_reports.specs.Answers.{EndsAs, EndsCut, EndsWith, message_at}
+use Rattle.design_reports.specs.Endings.{status_of}
+use Rattle.design_reports.specs.Reports.{Report}
+use Rattle.design_reports.specs.declared.ending.Ending.{Ending}
+use Rattle.design_reports.specs.declared.status.Status.{Status}
+use Rattle.design_reports.specs.declared.status.Status.TheVariants.{Usage}
+use Rattle.design_cli.specs.Report.{IsRefused, command_report}
 
--- An answer ends with nothing on the output for want of memory and after a read that failed, with a proper prefix of the
--- report after a write that failed, and else with the whole report and its ending.
-abbrev pub EndsWith : Report → Ending → Option (List ℕ) → Option (List ℕ) → Type 0
-EndsWith report WantOfMemory old new = Keeps old new
-EndsWith report FailedRead old new = Keeps old new
-EndsWith report FailedWrite old new = AppendsPart old new (output report)
-EndsWith report ending old new = (ending ≡ report.ending) × Appends old new (output report)
+-- What stands of a report where the answer to the command was cut, for want of memory or by a read that failed: nothing, since
+-- all memory is taken and all input is read before the first byte.
+abbrev pub Stands : Result Command Reason → Report → Option (List ℕ) → Option (List ℕ) → Type 0
+Stands command report old new = Keeps old new
 
--- an answer to words that are answered
-abbrev pub IsAnswer : Ending → Type 0
-IsAnswer ending = status_of ending ≢ Usage
+-- how the answer to a command ends
+abbrev pub AnswerEnds : Result Command Reason → Report → Ending → Option (List ℕ) → Option (List ℕ) → Type 0
+AnswerEnds command report ending old new = EndsCut (Stands command report) report ending old new
 
--- the output failed, where the answer says so
-abbrev pub HasFault : Ending → ℕ → ℕ → Type 0
-HasFault ending before now = ending ≡ FailedWrite → Rose before now
+-- the same of the status of a run
+abbrev pub RunEnds : Result Command Reason → Report → Status → Option (List ℕ) → Option (List ℕ) → Type 0
+RunEnds command report status old new = EndsAs (Stands command report) report status old new
 
--- a read of the input failed, where the answer says so
-abbrev pub HasReadFault : Ending → ℕ → ℕ → Type 0
-HasReadFault ending before now = ending ≡ FailedRead → Rose before now
+-- There is a text, what the input has left where that is told, and the answer ends as the report on it says.
+pub record EndsOn (left : Option (List ℕ)) (report : List ℕ → Report) (ending : Ending) (old new : Option (List ℕ)) : Type 0 where
+  pub text : List ℕ
+  pub is_input : IsInput left text
+  pub ends : EndsWith (report text) ending old new
 
--- nothing is written for want of memory and after a read that failed, told or not
-abbrev pub IsSilent : Ending → Option (List ℕ) → Option (List ℕ) → Type 0
-IsSilent WantOfMemory old new = Keeps old new
-IsSilent FailedRead old new = Keeps old new
-IsSilent ending old new = Unit {0}
+-- The same of the answer to a command; it is refused where the report says so.
+pub record Answers (command : Result Command Reason) (left : Option (List ℕ)) (ending : Ending) (old new : Option (List ℕ)) : Type 0 where
+  pub text : List ℕ
+  pub is_input : IsInput left text
+  pub ends : AnswerEnds command (command_report command text) ending old new
+  pub usage : (status_of ending ≡ Usage) ↔ IsRefused (command_report command text)
 
--- the same of the status of a run, where its report is told
-abbrev pub EndsAs : Option Report → Status → Option (List ℕ) → Option (List ℕ) → Type 0
-EndsAs report NoMemory old new = Keeps old new
-EndsAs report ReadFault old new = Keeps old new
-EndsAs report WriteFault old new = IfSome report (λ r. AppendsPart old new (output r))
-EndsAs report status old new = IfSome report (λ r. (status ≡ status_of r.ending) × Appends old new (output r))
-
--- the line on the error output at each status
-abbrev pub message_at : Option Report → Status → Option (List ℕ)
-message_at report NoMemory = Some (message_of WantOfMemory)
-message_at report ReadFault = Some (message_of FailedRead)
-message_at report WriteFault = Some (message_of FailedWrite)
-message_at report status = option_map (λ r. message_of r.ending) report
-
--- A text was appended, or its sink failed after a part of it.
-abbrev pub Says : List ℕ → Option (List ℕ) → Option (List ℕ) → ℕ → ℕ → Type 0
-Says text old new before now = Appends old new text ⊎ (AppendsPart old new text × Rose before now)
+-- The same of the status of a run, and of the line on the error output.
+pub record RunsOn (command : Result Command Reason) (left : Option (List ℕ)) (status : Status) (old new : Option (List ℕ)) (IsSaid : List ℕ → Type 0) : Type 0 where
+  pub text : List ℕ
+  pub is_input : IsInput left text
+  pub ends : RunEnds command (command_report command text) status old new
+  pub usage : (status ≡ Usage) ↔ IsRefused (command_report command text)
+  pub message : IsSaid (message_at (command_report command text) status)

@@ -1,30 +1,88 @@
 //! The top call.
-ghost use Rattle.std.specs.Prelude.{◌≡◌, ◌↔◌, IfSome, IsSomeAnd, false, true};
+ghost use Rattle.std.specs.Prelude.{◌≡◌, ◌≢◌, ◌↔◌, IfNone, IfSome, Ok, false, true};
+ghost use Rattle.chosen_designs.specs.Chosen.{EachChosenIsDesigned};
+ghost use Rattle.design_cli.specs.Decided.{EachNoHasNone, EachYesIsDesigned};
+ghost use Rattle.design_cli.specs.Report.{EachValidAreSquares, EachValidIsArray, EachValidIsDesign, IsRefused, command_of, reads_input, takes_memory, unread_report};
+ghost use Rattle.design_cli.specs.Runs.{Answers, RunsOn};
 ghost use Rattle.design_io.specs.Faults.{Rose};
-ghost use Rattle.design_cli.specs.Chosen.{EachNoHasNone, EachYesIsDesigned};
-ghost use Rattle.design_cli.specs.Endings.{status_of};
-ghost use Rattle.design_cli.specs.Report.{EachValidAreSquares, EachValidIsArray, EachValidIsDesign, IsRefused, command_of, reads_input, report_of};
-ghost use Rattle.design_cli.specs.Runs.{EndsAs, EndsWith, HasFault, HasReadFault, IsSilent, Says, message_at};
+ghost use Rattle.design_lines.specs.Grammar.{IsInBounds};
+ghost use Rattle.design_reports.specs.Answers.{EndsWith, HasFault, HasReadFault, Says};
+ghost use Rattle.design_reports.specs.Endings.{status_of};
 
 use crate::asking::{answer_ask, answer_explain};
 use crate::building::answer_build;
 use crate::checking::answer_check;
-use crate::ending::Ending;
-use crate::status::Status;
-use design_io::{Sink, Source, write_whole};
-use design_lines::{Command, Verb, read_words};
-use rule_table::Steps;
+use crate::oracle::Oracle;
+use design_io::{Sink, Source};
+use design_lines::{Asked, Command, Verb, read_words};
+use design_reports::{Ending, Status, say};
+use rule_table::{Asker, PlainAsker, Steps};
 use std::alloc::Global;
 use std::sync::ledger::Ledger;
 
-// Says a line on the error output. That it fails changes nothing.
-fn say<E: Sink>(err: &mut E, text: &[u8])
-    ensures { Says text.now (E.held err.old) (E.held err.new) (E.faults err.old) (E.faults err.new) }
+// Answers a command that leaves the input unread.
+fn answer_unread<K: Sink, A: Asker + Drop, L: Ledger>(
+    command: Command,
+    oracle: &mut Oracle<A, L>,
+    out: &mut K,
+) -> Ending
+    requires { IsInBounds command }
+    ensures ends { EndsWith (unread_report command) result (K.held out.old) (K.held out.new) }
+    ensures cause { HasFault result (K.faults out.old) (K.faults out.new) }
+    ensures no_read { result ≢ Ending.ReadFault }
+    ensures memory { takes_memory (Ok command) ≡ false → result ≢ Ending.NoMemory }
+    ensures usage { (status_of result ≡ Status.Usage) ↔ IsRefused (unread_report command) }
 {
-    let _ = write_whole(err, text);
+    let Command::On { verb, query, shape } = command else {
+        return Ending::NotBuilt;
+    };
+    match verb {
+        Verb::Ask => answer_ask(&query, oracle, out),
+        Verb::Build => answer_build(&query, shape, oracle, out),
+        Verb::Explain => answer_explain(&query, oracle, out),
+        Verb::Closure | Verb::Check => Ending::NotBuilt,
+    }
+}
+
+// What a command asks to check.
+fn to_check(command: Command) -> Option<Asked>
+    ensures check { IfSome result (λ asked. command ≡ Command.On Verb.Check asked.query asked.shape) }
+    ensures other { IfNone result (reads_input (Ok command) ≡ false) }
+{
+    match command {
+        Command::On {
+            verb: Verb::Check,
+            query,
+            shape,
+        } => Some(Asked { query, shape }),
+        _ => None,
+    }
+}
+
+// Answers a command.
+#[tactic(auto, using(crate::proofs::Endings::check_ends))]
+fn answer_command<S: Source, K: Sink, A: Asker + Drop, L: Ledger>(
+    command: Command,
+    oracle: &mut Oracle<A, L>,
+    input: &mut S,
+    out: &mut K,
+) -> Ending
+    requires { IsInBounds command }
+    ensures ends { Answers (Ok command) (S.left input.old) result (K.held out.old) (K.held out.new) }
+    ensures cause { HasFault result (K.faults out.old) (K.faults out.new) }
+    ensures read_cause { HasReadFault result (S.faults input.old) (S.faults input.new) }
+    ensures reading { result ≡ Ending.ReadFault → reads_input (Ok command) ≡ true }
+    ensures memory { takes_memory (Ok command) ≡ false → result ≢ Ending.NoMemory }
+    ensures unread { reads_input (Ok command) ≡ false → input.new ≡ input.old }
+{
+    if let Some(asked) = to_check(command) {
+        return answer_check(oracle.alloc(), &asked.query, asked.shape, input, out);
+    }
+    answer_unread(command, oracle, out)
 }
 
 // Answers the words, and says how the answer ends.
+#[tactic(auto, using(crate::proofs::Endings::refused_ends))]
 fn answer<S: Source, K: Sink, L: Ledger>(
     alloc: Global,
     words: &[String],
@@ -32,51 +90,25 @@ fn answer<S: Source, K: Sink, L: Ledger>(
     steps: &mut Steps<L>,
     out: &mut K,
 ) -> Ending
-    ensures ends { IfSome (report_of words.now (S.left input.old)) (λ report. EndsWith report result (K.held out.old) (K.held out.new)) }
+    ensures ends { Answers (command_of words.now) (S.left input.old) result (K.held out.old) (K.held out.new) }
     ensures cause { HasFault result (K.faults out.old) (K.faults out.new) }
     ensures read_cause { HasReadFault result (S.faults input.old) (S.faults input.new) }
-    ensures silent { IsSilent result (K.held out.old) (K.held out.new) }
     ensures reading { result ≡ Ending.ReadFault → reads_input (command_of words.now) ≡ true }
-    ensures usage { (status_of result ≡ Status.Usage) ↔ IsRefused (report_of words.now (S.left input.old)) }
+    ensures memory { takes_memory (command_of words.now) ≡ false → result ≢ Ending.NoMemory }
     ensures unread { reads_input (command_of words.now) ≡ false → input.new ≡ input.old }
 {
     match read_words(words) {
+        Ok(command) => {
+            let mut oracle = Oracle::new(alloc, PlainAsker, steps);
+            answer_command(command, &mut oracle, input, out)
+        }
         Err(reason) => Ending::Refused { reason },
-        Ok(
-            Command::On {
-                verb: Verb::Ask,
-                query,
-                ..
-            },
-        ) => answer_ask(alloc, &query, steps, out),
-        Ok(
-            Command::On {
-                verb: Verb::Build,
-                query,
-                shape,
-            },
-        ) => answer_build(alloc, &query, shape, steps, out),
-        Ok(
-            Command::On {
-                verb: Verb::Explain,
-                query,
-                ..
-            },
-        ) => answer_explain(alloc, &query, steps, out),
-        Ok(
-            Command::On {
-                verb: Verb::Check,
-                query,
-                shape,
-            },
-        ) => answer_check(alloc, &query, shape, input, out),
-        Ok(_) => Ending::NotBuilt,
     }
 }
 
 /// Answers the words of a command line: writes the report on `out`, and at most one line on `err`, and says how that
 /// ended. The input is read only where the words ask for a check. `steps` counts the evaluations that are begun.
-#[tactic(auto, using(crate::proofs::Designed::each_yes_is_designed, crate::proofs::Designed::each_no_has_none, crate::proofs::Designed::each_valid_is_design, crate::proofs::Designed::each_valid_is_array, crate::proofs::Designed::each_valid_are_squares))]
+#[tactic(auto, using(crate::proofs::Designed::each_yes_is_designed, crate::proofs::Designed::each_no_has_none, crate::proofs::Designed::each_valid_is_design, crate::proofs::Designed::each_valid_is_array, crate::proofs::Designed::each_valid_are_squares, chosen_designs::proofs::Choices::each_chosen_is_designed))]
 pub fn run<S: Source, K: Sink, E: Sink, L: Ledger>(
     alloc: Global,
     words: &[String],
@@ -85,13 +117,14 @@ pub fn run<S: Source, K: Sink, E: Sink, L: Ledger>(
     err: &mut E,
     steps: &mut Steps<L>,
 ) -> Status
-    // The status and the output are those of the report, or a part of the report stands after a fault.
-    ensures ends { EndsAs (report_of words.now (S.left input.old)) result (K.held out.old) (K.held out.new) }
-    ensures usage { (result ≡ Status.Usage) ↔ IsRefused (report_of words.now (S.left input.old)) }
+    // There is a text, what the input has left where that is told, whose report this is: the status, the bytes on the output, of
+    // which a part stands after a fault, and the line on the error output.
+    ensures report { RunsOn (command_of words.now) (S.left input.old) result (K.held out.old) (K.held out.new) (λ line. Says line (E.held err.old) (E.held err.new) (E.faults err.old) (E.faults err.new)) }
 
     // The blocks of a yes are such a design, a no of the table of rules means that there is none, and exactly the blocks of
     // such designs are found valid.
     ensures design { EachYesIsDesigned }
+    ensures chosen { EachChosenIsDesigned }
     ensures none { EachNoHasNone }
     ensures valid { EachValidIsDesign }
     ensures valid_rows { EachValidIsArray }
@@ -102,7 +135,7 @@ pub fn run<S: Source, K: Sink, E: Sink, L: Ledger>(
     ensures read_fault { result ≡ Status.ReadFault → Rose (S.faults input.old) (S.faults input.new) }
     ensures reading { result ≡ Status.ReadFault → reads_input (command_of words.now) ≡ true }
 
-    ensures message { IfSome (message_at (report_of words.now (S.left input.old)) result) (λ text. Says text (E.held err.old) (E.held err.new) (E.faults err.old) (E.faults err.new)) }
+    ensures memory { takes_memory (command_of words.now) ≡ false → result ≢ Status.NoMemory }
     ensures unread { reads_input (command_of words.now) ≡ false → input.new ≡ input.old }
 {
     let ending = answer(alloc, words, input, steps, out);

@@ -2,42 +2,31 @@
 ghost use Rattle.std.specs.Prelude.{◌≡◌, ◌≢◌, ◌↔◌, [], ◌++◌, Some, true};
 ghost use Rattle.std.specs.List.{flat_map};
 ghost use Rattle.criteria.specs.Criteria.{criterion_of, numbers_of};
-ghost use Rattle.design_base.specs.Limits.{in_bounds};
 ghost use Rattle.derivation_text.specs.Text.{derivation_lines};
+ghost use Rattle.derivations.specs.Derivations.{derivation as derivation_of};
+ghost use Rattle.design_base.specs.Limits.{in_bounds};
+ghost use Rattle.design_cli.specs.Decided.{decided};
+ghost use Rattle.design_cli.specs.Designs.{HasSpellable};
+ghost use Rattle.design_cli.specs.Report.{IsRefused, ask_report, explain_report};
 ghost use Rattle.design_io.specs.Faults.{HasCause};
 ghost use Rattle.design_io.specs.Pieces.{AppendsWhole};
-ghost use Rattle.design_cli.specs.Chosen.{decided, derivation_of};
-ghost use Rattle.design_cli.specs.Designs.{HasSpellable};
-ghost use Rattle.design_cli.specs.Endings.{status_of};
-ghost use Rattle.design_cli.specs.Report.{ask_report, ending_with, explain_report, verdict_report};
-ghost use Rattle.design_cli.specs.Runs.{EndsWith, HasFault, IsAnswer, IsSilent};
-ghost use Rattle.design_cli.specs.Texts.{because_lines, verdict_line as verdict_text};
+ghost use Rattle.design_reports.specs.Answers.{EndsWith, HasFault, IsAnswer};
+ghost use Rattle.design_reports.specs.Endings.{status_of};
+ghost use Rattle.design_reports.specs.Reports.{verdict_report};
+ghost use Rattle.design_reports.specs.Texts.{because_lines, verdict_line as verdict_text};
+ghost use Rattle.rule_table.specs.Verdicts.{verdict as verdict_of};
 
-use crate::designs::table_derivation;
-use crate::ending::Ending;
-use crate::lines::{write_because, write_verdict};
-use crate::status::Status;
+use crate::oracle::Oracle;
 use criteria::numbers;
 use derivation_text::print_v1;
 use derivations::Derivation;
 use design_base::{Criterion, Query, Step, Verdict};
 use design_io::{Failed, Sink};
-use rule_table::{Steps, Tools, evaluate};
-use std::alloc::Global;
+use design_reports::{Ending, Status, write_because, write_verdict};
+use rule_table::Asker;
 use std::sync::ledger::Ledger;
 
-// How an answer ends that says the verdict.
-fn ending_of(verdict: &Verdict) -> Ending
-    ensures { result ≡ ending_with verdict.now }
-{
-    match verdict {
-        Verdict::Yes(_) => Ending::Yes,
-        Verdict::No(_) => Ending::No,
-        Verdict::Unknown => Ending::Unknown,
-    }
-}
-
-/// Answers with the verdict alone.
+/// Answers with the verdict alone. It takes no memory.
 pub fn answer_verdict<K: Sink>(query: &Query, verdict: &Verdict, out: &mut K) -> Ending
     ensures ends { EndsWith (verdict_report query.now verdict.now []) result (K.held out.old) (K.held out.new) }
     ensures cause { HasFault result (K.faults out.old) (K.faults out.new) }
@@ -46,49 +35,28 @@ pub fn answer_verdict<K: Sink>(query: &Query, verdict: &Verdict, out: &mut K) ->
     ensures memory { result ≢ Ending.NoMemory }
 {
     match write_verdict(out, query, verdict) {
-        Ok(()) => ending_of(verdict),
+        Ok(()) => Ending::of_verdict(verdict),
         Err(Failed) => Ending::WriteFault,
     }
 }
 
-// Says the verdict on a transversal design.
-fn ask_td<K: Sink, L: Ledger>(
-    alloc: Global,
-    k: u16,
-    n: u16,
-    steps: &mut Steps<L>,
-    out: &mut K,
-) -> Ending
-    requires { in_bounds (Query.Td k n) ≡ true }
-    ensures ends { EndsWith (ask_report (Query.Td k n) (decided (Query.Td k n))) result (K.held out.old) (K.held out.new) }
-    ensures cause { HasFault result (K.faults out.old) (K.faults out.new) }
-    ensures answered { IsAnswer result }
-    ensures no_read { result ≢ Ending.ReadFault }
-{
-    let tools = Tools::new(alloc);
-    let query = Query::Td { k, n };
-    let verdict = evaluate(&query, &tools, steps);
-    answer_verdict(&query, &verdict, out)
-}
-
-/// Answers `ask`: the verdict by the table of rules.
-pub fn answer_ask<K: Sink, L: Ledger>(
-    alloc: Global,
+/// Answers `ask` on a question in bounds: the verdict, where it is final. It takes no memory.
+pub fn answer_ask<K: Sink, A: Asker + Drop, L: Ledger>(
     query: &Query,
-    steps: &mut Steps<L>,
+    oracle: &mut Oracle<A, L>,
     out: &mut K,
 ) -> Ending
     requires { in_bounds query.now ≡ true }
     ensures ends { EndsWith (ask_report query.now (decided query.now)) result (K.held out.old) (K.held out.new) }
     ensures cause { HasFault result (K.faults out.old) (K.faults out.new) }
     ensures no_read { result ≢ Ending.ReadFault }
-    ensures silent { IsSilent result (K.held out.old) (K.held out.new) }
-    ensures usage { (status_of result ≡ Status.Usage) ↔ (status_of (ask_report query.now (decided query.now)).ending ≡ Status.Usage) }
+    ensures memory { result ≢ Ending.NoMemory }
+    ensures usage { (status_of result ≡ Status.Usage) ↔ IsRefused (ask_report query.now (decided query.now)) }
 {
-    match *query {
-        Query::Td { k, n } => ask_td(alloc, k, n, steps, out),
-        _ => Ending::NotBuilt,
-    }
+    let Some(verdict) = oracle.decided(query) else {
+        return Ending::NotBuilt;
+    };
+    answer_verdict(query, &verdict, out)
 }
 
 // Writes the verdict yes and its derivation.
@@ -109,12 +77,13 @@ fn write_derivation<K: Sink>(
 
 // Explains a question that the table of rules answers by yes, by its derivation.
 fn explain_yes<K: Sink>(query: &Query, step: &Step, derivation: &Derivation, out: &mut K) -> Ending
-    requires derivation { derivation.now ≡ derivation_of query.now step.now }
+    requires derivation { derivation.now ≡ derivation_of query.now }
     requires few { HasSpellable derivation.now }
     ensures ends { EndsWith (explain_report query.now (Some (Verdict.Yes step.now))) result (K.held out.old) (K.held out.new) }
     ensures cause { HasFault result (K.faults out.old) (K.faults out.new) }
     ensures answered { IsAnswer result }
     ensures no_read { result ≢ Ending.ReadFault }
+    ensures memory { result ≢ Ending.NoMemory }
 {
     match write_derivation(out, query, step, derivation) {
         Ok(()) => Ending::Yes,
@@ -143,6 +112,7 @@ fn explain_no<K: Sink>(query: &Query, criterion: Criterion, out: &mut K) -> Endi
     ensures cause { HasFault result (K.faults out.old) (K.faults out.new) }
     ensures answered { IsAnswer result }
     ensures no_read { result ≢ Ending.ReadFault }
+    ensures memory { result ≢ Ending.NoMemory }
 {
     match write_reason(out, query, criterion) {
         Ok(()) => Ending::No,
@@ -150,52 +120,48 @@ fn explain_no<K: Sink>(query: &Query, criterion: Criterion, out: &mut K) -> Endi
     }
 }
 
-// Says the verdict on a transversal design, and why it is so.
+// Says a verdict of the table of rules, and why it is so.
 #[tactic(auto, using(crate::proofs::Reasons::criterion_of_no))]
-fn explain_td<K: Sink, L: Ledger>(
-    alloc: Global,
-    k: u16,
-    n: u16,
-    steps: &mut Steps<L>,
+fn explain_verdict<K: Sink, A: Asker + Drop, L: Ledger>(
+    query: &Query,
+    verdict: Verdict,
+    oracle: &mut Oracle<A, L>,
     out: &mut K,
 ) -> Ending
-    requires { in_bounds (Query.Td k n) ≡ true }
-    ensures ends { EndsWith (explain_report (Query.Td k n) (decided (Query.Td k n))) result (K.held out.old) (K.held out.new) }
+    requires bounds { in_bounds query.now ≡ true }
+    requires verdict { verdict ≡ verdict_of query.now }
+    ensures ends { EndsWith (explain_report query.now (Some verdict)) result (K.held out.old) (K.held out.new) }
     ensures cause { HasFault result (K.faults out.old) (K.faults out.new) }
     ensures answered { IsAnswer result }
     ensures no_read { result ≢ Ending.ReadFault }
 {
-    let tools = Tools::new(alloc);
-    let query = Query::Td { k, n };
-    let verdict = evaluate(&query, &tools, steps);
     match verdict {
         Verdict::Yes(step) => {
-            let Ok(derivation) = table_derivation(alloc, &query, &step, &tools, steps) else {
+            let Ok(derivation) = oracle.derivation(query, &step) else {
                 return Ending::NoMemory;
             };
-            explain_yes(&query, &step, &derivation, out)
+            explain_yes(query, &step, &derivation, out)
         }
-        Verdict::No(criterion) => explain_no(&query, criterion, out),
-        Verdict::Unknown => answer_verdict(&query, &verdict, out),
+        Verdict::No(criterion) => explain_no(query, criterion, out),
+        Verdict::Unknown => answer_verdict(query, &verdict, out),
     }
 }
 
-/// Answers `explain`: the verdict by the table of rules, and its derivation or the two numbers of its criterion.
-pub fn answer_explain<K: Sink, L: Ledger>(
-    alloc: Global,
+/// Answers `explain` on a question in bounds: the verdict, where it is final, and its derivation or the two numbers of its
+/// criterion.
+pub fn answer_explain<K: Sink, A: Asker + Drop, L: Ledger>(
     query: &Query,
-    steps: &mut Steps<L>,
+    oracle: &mut Oracle<A, L>,
     out: &mut K,
 ) -> Ending
     requires { in_bounds query.now ≡ true }
     ensures ends { EndsWith (explain_report query.now (decided query.now)) result (K.held out.old) (K.held out.new) }
     ensures cause { HasFault result (K.faults out.old) (K.faults out.new) }
     ensures no_read { result ≢ Ending.ReadFault }
-    ensures silent { IsSilent result (K.held out.old) (K.held out.new) }
-    ensures usage { (status_of result ≡ Status.Usage) ↔ (status_of (explain_report query.now (decided query.now)).ending ≡ Status.Usage) }
+    ensures usage { (status_of result ≡ Status.Usage) ↔ IsRefused (explain_report query.now (decided query.now)) }
 {
-    match *query {
-        Query::Td { k, n } => explain_td(alloc, k, n, steps, out),
-        _ => Ending::NotBuilt,
-    }
+    let Some(verdict) = oracle.decided(query) else {
+        return Ending::NotBuilt;
+    };
+    explain_verdict(query, verdict, oracle, out)
 }

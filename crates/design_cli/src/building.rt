@@ -1,31 +1,33 @@
 //! The answer to `build`: the verdict, and for yes its derivation and its blocks.
 ghost use Rattle.std.specs.Prelude.{◌≡◌, ◌≢◌, ◌↔◌, ◌++◌, Some, true};
 ghost use Rattle.std.specs.List.{flat_map};
-ghost use Rattle.design_base.specs.Limits.{in_bounds};
+ghost use Rattle.chosen_designs.specs.Chosen.{chosen as chosen_verdict};
 ghost use Rattle.derivation_text.specs.Text.{derivation_lines};
+ghost use Rattle.design_base.specs.Limits.{in_bounds};
+ghost use Rattle.design_base.specs.Meets.{Meets};
+ghost use Rattle.design_cli.specs.Decided.{decided};
+ghost use Rattle.design_cli.specs.Designs.{HasSpellable};
+ghost use Rattle.design_cli.specs.Report.{IsRefused, build_report, built_lines, chosen_report};
 ghost use Rattle.design_io.specs.Faults.{HasCause};
 ghost use Rattle.design_io.specs.Pieces.{AppendsWhole};
-ghost use Rattle.design_cli.specs.Chosen.{blocks_at, chosen, derivation_of};
-ghost use Rattle.design_cli.specs.Designs.{HasSpellable};
-ghost use Rattle.design_cli.specs.Endings.{status_of};
-ghost use Rattle.design_cli.specs.Parts.{IsPrintable, part_lines};
-ghost use Rattle.design_cli.specs.Report.{build_report};
-ghost use Rattle.design_cli.specs.Runs.{EndsWith, HasFault, IsAnswer, IsSilent};
-ghost use Rattle.design_cli.specs.Texts.{verdict_line as verdict_text};
+ghost use Rattle.design_reports.specs.Answers.{EndsWith, HasFault, IsAnswer};
+ghost use Rattle.design_reports.specs.Endings.{status_of};
+ghost use Rattle.design_reports.specs.Parts.{IsPrintable, part_lines};
+ghost use Rattle.design_reports.specs.Reports.{verdict_report};
+ghost use Rattle.design_reports.specs.Texts.{verdict_line as verdict_text};
+ghost use Rattle.rule_table.specs.Verdicts.{verdict as verdict_of};
 
 use crate::asking::answer_verdict;
-use crate::designs::{Design, bibd_design, table_design};
-use crate::ending::Ending;
-use crate::lines::write_verdict;
-use crate::parts::{Part, part_of_blocks, write_part};
-use crate::status::Status;
-use crate::verdicts::bibd_verdict;
+use crate::choosing::chosen_design;
+use crate::oracle::{Design, Oracle};
+use chosen_designs::chosen;
 use derivation_text::print_v1;
 use derivations::Derivation;
 use design_base::{Query, Step, Verdict};
 use design_io::{Failed, Sink};
 use design_lines::Shape;
-use rule_table::{Steps, Tools, evaluate};
+use design_reports::{Ending, Part, Status, part_of_blocks, write_part, write_verdict};
+use rule_table::Asker;
 use std::alloc::Global;
 use std::sync::ledger::Ledger;
 
@@ -48,8 +50,8 @@ fn write_yes<K: Sink>(
     write_part(out, part)
 }
 
-// Answers a question whose verdict is yes with its design.
-#[tactic(auto, using(crate::proofs::Designed::made_designed, crate::proofs::Outputs::output_of_both))]
+// Answers a question whose verdict is yes with its design. All blocks are made before the first byte is written.
+#[tactic(auto, using(design_reports::proofs::Outputs::output_of_both))]
 fn answer_design<K: Sink>(
     alloc: Global,
     query: &Query,
@@ -59,11 +61,9 @@ fn answer_design<K: Sink>(
     out: &mut K,
 ) -> Ending
     requires bounds { in_bounds query.now ≡ true }
-    requires yes { chosen query.now ≡ Some (Verdict.Yes step.now) }
-    requires derivation { design.derivation ≡ derivation_of query.now step.now }
-    requires blocks { design.blocks ≡ blocks_at query.now step.now }
     requires few { HasSpellable design.derivation }
-    ensures ends { EndsWith (build_report query.now shape (Some (Verdict.Yes step.now))) result (K.held out.old) (K.held out.new) }
+    requires design { Meets query.now design.blocks }
+    ensures ends { EndsWith (verdict_report query.now (Verdict.Yes step.now) (built_lines query.now shape design.derivation design.blocks)) result (K.held out.old) (K.held out.new) }
     ensures cause { HasFault result (K.faults out.old) (K.faults out.new) }
     ensures answered { IsAnswer result }
     ensures no_read { result ≢ Ending.ReadFault }
@@ -77,72 +77,66 @@ fn answer_design<K: Sink>(
     }
 }
 
-// Builds a transversal design by the table of rules.
-fn build_td<K: Sink, L: Ledger>(
-    alloc: Global,
-    k: u16,
-    n: u16,
+// Builds a question by its verdict by the table of rules.
+fn build_decided<K: Sink, A: Asker + Drop, L: Ledger>(
+    query: &Query,
     shape: Shape,
-    steps: &mut Steps<L>,
+    verdict: Verdict,
+    oracle: &mut Oracle<A, L>,
     out: &mut K,
 ) -> Ending
-    requires { in_bounds (Query.Td k n) ≡ true }
-    ensures ends { EndsWith (build_report (Query.Td k n) shape (chosen (Query.Td k n))) result (K.held out.old) (K.held out.new) }
+    requires bounds { in_bounds query.now ≡ true }
+    requires verdict { verdict ≡ verdict_of query.now }
+    ensures ends { EndsWith (build_report query.now shape (Some verdict)) result (K.held out.old) (K.held out.new) }
     ensures cause { HasFault result (K.faults out.old) (K.faults out.new) }
     ensures answered { IsAnswer result }
     ensures no_read { result ≢ Ending.ReadFault }
 {
-    let tools = Tools::new(alloc);
-    let query = Query::Td { k, n };
-    let verdict = evaluate(&query, &tools, steps);
     let Verdict::Yes(step) = verdict else {
-        return answer_verdict(&query, &verdict, out);
+        return answer_verdict(query, &verdict, out);
     };
-    let Ok(design) = table_design(alloc, &query, &step, &tools, steps) else {
+    let Ok(design) = oracle.design(query, &step) else {
         return Ending::NoMemory;
     };
-    answer_design(alloc, &query, shape, &step, design, out)
+    answer_design(oracle.alloc(), query, shape, &step, design, out)
 }
 
-// Builds a block design whose verdict is known yet.
-fn build_bibd<K: Sink>(alloc: Global, v: u16, k: u16, l: u16, shape: Shape, out: &mut K) -> Ending
-    requires { in_bounds (Query.Bibd v k l) ≡ true }
-    ensures ends { EndsWith (build_report (Query.Bibd v k l) shape (chosen (Query.Bibd v k l))) result (K.held out.old) (K.held out.new) }
+// Builds a question whose verdict is known without the table of rules.
+fn build_chosen<K: Sink>(alloc: Global, query: &Query, shape: Shape, out: &mut K) -> Ending
+    requires { in_bounds query.now ≡ true }
+    ensures ends { EndsWith (chosen_report query.now shape (chosen_verdict query.now)) result (K.held out.old) (K.held out.new) }
     ensures cause { HasFault result (K.faults out.old) (K.faults out.new) }
     ensures no_read { result ≢ Ending.ReadFault }
-    ensures usage { (status_of result ≡ Status.Usage) ↔ (status_of (build_report (Query.Bibd v k l) shape (chosen (Query.Bibd v k l))).ending ≡ Status.Usage) }
+    ensures usage { (status_of result ≡ Status.Usage) ↔ IsRefused (chosen_report query.now shape (chosen_verdict query.now)) }
 {
-    let Some(verdict) = bibd_verdict(v, k, l) else {
+    let Some(verdict) = chosen(query) else {
         return Ending::NotBuilt;
     };
-    let query = Query::Bibd { v, k, l };
     let Verdict::Yes(step) = verdict else {
-        return answer_verdict(&query, &verdict, out);
+        return answer_verdict(query, &verdict, out);
     };
-    let Ok(design) = bibd_design(alloc, v, k, l, &step) else {
+    let Ok(design) = chosen_design(alloc, query, &step) else {
         return Ending::NoMemory;
     };
-    answer_design(alloc, &query, shape, &step, design, out)
+    answer_design(alloc, query, shape, &step, design, out)
 }
 
-/// Answers `build`. All blocks are made before the first byte is written.
-pub fn answer_build<K: Sink, L: Ledger>(
-    alloc: Global,
+/// Answers `build` on a question in bounds: the verdict, where it is final or else known without the table of rules, and for
+/// yes its design.
+pub fn answer_build<K: Sink, A: Asker + Drop, L: Ledger>(
     query: &Query,
     shape: Shape,
-    steps: &mut Steps<L>,
+    oracle: &mut Oracle<A, L>,
     out: &mut K,
 ) -> Ending
     requires { in_bounds query.now ≡ true }
-    ensures ends { EndsWith (build_report query.now shape (chosen query.now)) result (K.held out.old) (K.held out.new) }
+    ensures ends { EndsWith (build_report query.now shape (decided query.now)) result (K.held out.old) (K.held out.new) }
     ensures cause { HasFault result (K.faults out.old) (K.faults out.new) }
     ensures no_read { result ≢ Ending.ReadFault }
-    ensures silent { IsSilent result (K.held out.old) (K.held out.new) }
-    ensures usage { (status_of result ≡ Status.Usage) ↔ (status_of (build_report query.now shape (chosen query.now)).ending ≡ Status.Usage) }
+    ensures usage { (status_of result ≡ Status.Usage) ↔ IsRefused (build_report query.now shape (decided query.now)) }
 {
-    match *query {
-        Query::Td { k, n } => build_td(alloc, k, n, shape, steps, out),
-        Query::Bibd { v, k, l } => build_bibd(alloc, v, k, l, shape, out),
-        Query::Df { .. } | Query::Gdd { .. } | Query::Pbd { .. } => Ending::NotBuilt,
-    }
+    let Some(verdict) = oracle.decided(query) else {
+        return build_chosen(oracle.alloc(), query, shape, out);
+    };
+    build_decided(query, shape, verdict, oracle, out)
 }

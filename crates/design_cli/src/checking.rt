@@ -1,25 +1,22 @@
 //! The answer to `check`: what the check of the input's blocks finds.
-ghost use Rattle.std.specs.Prelude.{◌≡◌, ◌≢◌, ◌≤◌, IfOk, IfSome, length, true};
+ghost use Rattle.std.specs.Prelude.{◌≡◌, ◌≢◌, ◌≤◌, IfOk, length, true};
 ghost use Rattle.design_base.specs.Limits.{in_bounds};
 ghost use Rattle.design_base.specs.declared.limits.TheConstants.{INPUT_MAX};
-ghost use Rattle.design_io.specs.Faults.{Rose};
 ghost use Rattle.design_checks.specs.Findings.{finding as finding_of};
-ghost use Rattle.design_cli.specs.Report.{check_report, found_report, text_report};
 ghost use Rattle.design_cli.specs.BlockText.{block_text, shortest_line};
 ghost use Rattle.design_cli.specs.LineFindings.{IsFoundIn, lines_finding};
-ghost use Rattle.design_cli.specs.Endings.{ending_at};
-ghost use Rattle.design_cli.specs.Runs.{EndsWith, HasFault, HasReadFault, IsAnswer, IsSilent};
+ghost use Rattle.design_cli.specs.Report.{check_report, text_report};
+ghost use Rattle.design_cli.specs.Runs.{EndsOn};
+ghost use Rattle.design_reports.specs.Answers.{EndsWith, HasFault, HasReadFault, IsAnswer};
+ghost use Rattle.design_reports.specs.Reports.{found_report};
 
 use crate::blocks::{BlockTextEnd, read_blocks};
-use crate::ending::Ending;
-use crate::lines::write_finding;
 use arrays::{ArrayEnd, td_of_rows, td_of_squares};
 use design_base::{INPUT_MAX, Memory, Query};
-use design_checks::{
-    Finding, Scratch, check_bibd, check_df, check_gdd, check_pbd, check_td,
-};
-use design_io::{Failed, ReadEnd, Sink, Source, read_all};
+use design_checks::{Finding, Scratch, check_bibd, check_df, check_gdd, check_pbd, check_td};
+use design_io::{Failed, Sink, Source, read_all};
 use design_lines::Shape;
+use design_reports::{Ending, write_finding};
 use field_tables::Fields;
 use incidence::Rows;
 use std::alloc::Global;
@@ -33,12 +30,10 @@ fn answer_finding<K: Sink>(query: &Query, finding: Finding, out: &mut K) -> Endi
     ensures cause { HasFault result (K.faults out.old) (K.faults out.new) }
     ensures answered { IsAnswer result }
     ensures no_read { result ≢ Ending.ReadFault }
+    ensures memory { result ≢ Ending.NoMemory }
 {
     match write_finding(out, query, finding) {
-        Ok(()) => match finding {
-            Finding::Valid => Ending::Yes,
-            Finding::BadBlock { .. } | Finding::BadPair { .. } => Ending::No,
-        },
+        Ok(()) => Ending::of_finding(finding),
         Err(Failed) => Ending::WriteFault,
     }
 }
@@ -139,19 +134,8 @@ fn answer_text<K: Sink>(
     answer_finding(query, finding, out)
 }
 
-// How an answer ends where the input was not read.
-fn unread_ending(end: ReadEnd) -> Ending
-    ensures { result ≡ ending_at end }
-{
-    match end {
-        ReadEnd::Failed => Ending::ReadFault,
-        ReadEnd::TooLong { line } => Ending::BadInput { line },
-        ReadEnd::Memory => Ending::NoMemory,
-    }
-}
-
-/// Answers `check`. The whole input is read before anything of it is looked at.
-#[tactic(auto, using(crate::proofs::Endings::unread_endings))]
+/// Answers `check` on a question in bounds. The whole input is read before anything of it is looked at.
+#[tactic(auto, using(crate::proofs::Endings::unread_answers))]
 pub fn answer_check<S: Source, K: Sink>(
     alloc: Global,
     query: &Query,
@@ -160,15 +144,14 @@ pub fn answer_check<S: Source, K: Sink>(
     out: &mut K,
 ) -> Ending
     requires { in_bounds query.now ≡ true }
-    ensures ends { IfSome (S.left input.old) (λ text. EndsWith (check_report query.now shape text) result (K.held out.old) (K.held out.new)) }
+    ensures ends { EndsOn (S.left input.old) (check_report query.now shape) result (K.held out.old) (K.held out.new) }
     ensures cause { HasFault result (K.faults out.old) (K.faults out.new) }
     ensures read_cause { HasReadFault result (S.faults input.old) (S.faults input.new) }
-    ensures silent { IsSilent result (K.held out.old) (K.held out.new) }
     ensures answered { IsAnswer result }
 {
     let text = match read_all(alloc, input, INPUT_MAX) {
         Ok(text) => text,
-        Err(end) => return unread_ending(end),
+        Err(end) => return Ending::of_unread(end),
     };
     answer_text(alloc, query, shape, text, out)
 }

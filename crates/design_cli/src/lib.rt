@@ -6,16 +6,10 @@ mod asking;
 mod blocks;
 mod building;
 mod checking;
-mod designs;
-mod ending;
-mod geometries;
-mod lines;
-mod parts;
-mod status;
-mod verdicts;
+mod choosing;
+mod oracle;
 
 pub use answering::run;
-pub use status::Status;
 
 #[cfg(test)]
 mod tests;

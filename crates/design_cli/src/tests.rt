@@ -5,15 +5,15 @@ use design_io::{MemorySink, MemorySource};
 use rule_table::Steps;
 use std::alloc::{AllocError, Global};
 use std::marker::Brand;
-use std::process::Abort;
 use std::sync::ledger::{Blank, Ledger};
 use std::test::Fail;
 
-// A line of words, the input, the number of the output's call that fails, and what comes of it.
+// A line of words, the input, the numbers of its call and of the output's that fail, and what comes of it.
 #[derive(Drop)]
 struct Case {
     words: &'static str,
     input: &'static str,
+    failing_read: u32,
     failing: u32,
     output: &'static str,
     message: &'static str,
@@ -36,7 +36,7 @@ fn holds_counted<L: Ledger>(alloc: Global, row: &Case, blank: Blank) -> Result<b
 {
     let words = words_of(alloc, row.words)?;
     let text = row.input.as_bytes().to_vec(alloc)?;
-    let mut input = MemorySource::new(text, Vec::new(alloc));
+    let mut input = MemorySource::new(text, vec![in alloc; row.failing_read]?);
     let Ok(mut out) = MemorySink::new(alloc, 4096, vec![in alloc; row.failing]?) else {
         return Err(AllocError);
     };
@@ -116,6 +116,7 @@ fn told(
     Case {
         words,
         input,
+        failing_read: 0,
         failing: 0,
         output,
         message,
@@ -134,6 +135,8 @@ fn words_are_refused(rt: HostRuntime) -> Result<(), Fail> {
         ("ask td 3 4 5", "usage: surplus word at 5\n"),
         ("check mols 4 65534", "usage: out of bounds\n"),
         ("build bibd 7 3 1", "usage: not built\n"),
+        ("ask bibd 8 3 1", "usage: not built\n"),
+        ("explain gdd 4 3 2", "usage: not built\n"),
         ("closure td 5 4", "usage: not built\n"),
     ] {
         let right = holds(rt.alloc(), &told(words, FANO, "", message, 64))?;
@@ -153,6 +156,7 @@ fn designs_are_built(rt: HostRuntime) -> Result<(), Fail> {
         let row = Case {
             words,
             input: "",
+            failing_read: 0,
             failing,
             output,
             message: "write fault\n",
@@ -199,6 +203,21 @@ fn blocks_are_checked(rt: HostRuntime) -> Result<(), Fail> {
             &told("check bibd 7 3 1", input, output, message, status),
         )?;
         assert!(rt; right, "at {input}");
+    }
+    Ok(())
+}
+
+#[test]
+fn group_divisible_and_pairwise_balanced_designs_are_checked(rt: HostRuntime) -> Result<(), Fail> {
+    for (words, output, status) in [
+        ("check gdd 2 1 3", "gdd 2 1 3 valid\n", 0),
+        ("check pbd 4 2", "pbd 4 2 invalid pair 0 3 covered 0\n", 1),
+    ] {
+        let right = holds(
+            rt.alloc(),
+            &told(words, "0 1\n0 2\n1 2\n", output, "", status),
+        )?;
+        assert!(rt; right, "at {words}");
     }
     Ok(())
 }
@@ -295,6 +314,7 @@ fn transversal_designs_are_decided(rt: HostRuntime) -> Result<(), Fail> {
         ("ask td 4 6", "td 4 6 unknown\n", 2),
         ("ask mols 14 2", "td 4 14 unknown\n", 2),
         ("explain td 6 4", "td 6 4 no groups\nbecause 6 5\n", 1),
+        ("explain td 66 64", "td 66 64 no groups\nbecause 66 65\n", 1),
         ("explain oa 4 6", "td 4 6 unknown\n", 2),
         ("explain td 4 18", DERIVATION_18, 0),
         ("build td 6 4", "td 6 4 no groups\n", 1),
@@ -331,6 +351,12 @@ fn arrays_and_squares_are_checked(rt: HostRuntime) -> Result<(), Fail> {
             "check oa 3 2",
             "0 0 0\n0 1 1\n1 0 1\n1 1 1\n",
             "td 3 2 invalid pair 1 4 covered 0\n",
+            1,
+        ),
+        (
+            "check oa 3 2",
+            "0 0 0\n0 1 1\n1 0 1\n1 1 0\n1 1 0\n",
+            "td 3 2 invalid pair 1 3 covered 2\n",
             1,
         ),
         (
@@ -377,25 +403,17 @@ fn lines_behind_a_short_block_are_read(rt: HostRuntime) -> Result<(), Fail> {
     Ok(())
 }
 
-// An input whose first read fails.
-fn assert_read_fault<L: Ledger>(rt: &impl Abort, alloc: Global, blank: Blank) -> Result<(), Fail>
-    requires name { L.name ≡ blank.name }
-    requires parts { L.parts ≡ blank.parts }
-    requires some { 0 < blank.parts }
-{
-    let words = words_of(alloc, "check bibd 7 3 1")?;
-    let mut input = MemorySource::new(Vec::new(alloc), vec![in alloc; 1u32]?);
-    let mut out = MemorySink::new(alloc, 100, Vec::new(alloc))?;
-    let mut err = MemorySink::new(alloc, 100, Vec::new(alloc))?;
-    let mut steps = Steps::<L>::new(blank);
-    let status = run(alloc, &words, &mut input, &mut out, &mut err, &mut steps);
-    assert_eq!(rt; status.number(), 66);
-    assert!(rt; out.bytes().is_empty());
-    assert_eq!(rt; err.bytes(), b"read fault\n".as_slice());
-    Ok(())
-}
-
 #[test]
 fn input_that_fails_is_a_read_fault(rt: HostRuntime) -> Result<(), Fail> {
-    assert_read_fault::<Brand>(&rt, rt.alloc(), Blank::new(1))
+    let row = Case {
+        words: "check bibd 7 3 1",
+        input: FANO,
+        failing_read: 1,
+        failing: 0,
+        output: "",
+        message: "read fault\n",
+        status: 66,
+    };
+    assert!(rt; holds(rt.alloc(), &row)?);
+    Ok(())
 }

@@ -3,8 +3,9 @@
 
 ghost use Rattle.std.specs.Prelude.{◌≡◌, ◌<◌};
 
-use design_cli::{Status, run};
+use design_cli::run;
 use design_io::{StdSink, StdSource};
+use design_reports::Status;
 use rule_table::Steps;
 use std::marker::Brand;
 use std::process::ExitCode;

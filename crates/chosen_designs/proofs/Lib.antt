@@ -1,0 +1,3 @@
+pub mod LineDesigns
+pub mod Choices
+pub mod Sizes

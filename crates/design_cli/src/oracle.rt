@@ -1,0 +1,111 @@
+//! What the answers to questions are asked of.
+ghost use Rattle.std.specs.Prelude.{◌≡◌, IfOk, IfSome, true};
+ghost use Rattle.derivations.specs.Derivations.{IsSound, derivation, replayed};
+ghost use Rattle.design_base.specs.Limits.{in_bounds};
+ghost use Rattle.design_base.specs.Meets.{Meets};
+ghost use Rattle.design_base.specs.declared.verdict.Verdict.TheVariants.{Yes};
+ghost use Rattle.design_cli.specs.Decided.{decided, is_final as is_final_of};
+ghost use Rattle.design_cli.specs.Designs.{HasSpellable};
+ghost use Rattle.rule_table.specs.Verdicts.{verdict as verdict_of};
+
+use derivations::{Derivation, ReplayEnd, derive, replay};
+use design_base::{Memory, Query, Step, Verdict};
+use incidence::Rows;
+use rule_table::{Asker, Steps, Tools};
+use std::alloc::Global;
+use std::sync::ledger::Ledger;
+
+/// A derivation, and the blocks that it gives.
+#[derive(Drop)]
+pub struct Design {
+    pub derivation: Derivation,
+    pub blocks: Rows,
+}
+
+/// The table of rules, whoever answers its questions, and the count of evaluations: what the answers need of them, made once
+/// and lent to each.
+#[derive(Drop)]
+pub struct Oracle<'a, A: Asker + Drop, L: Ledger> {
+    alloc: Global,
+    tools: Tools,
+    asker: A,
+    steps: &'a mut Steps<L>,
+}
+
+// Whether a verdict stays whatever rules are still to come.
+fn is_final(query: &Query, verdict: &Verdict) -> bool
+    ensures { result ≡ is_final_of query.now verdict.now }
+{
+    match (verdict, query) {
+        (Verdict::No(_), _) => true,
+        (_, Query::Td { .. }) => true,
+        _ => false,
+    }
+}
+
+impl<'a, A: Asker + Drop, L: Ledger> Oracle<'a, A, L> {
+    /// What answers ask by this asker. Memory is taken from `alloc`, and none before it is needed.
+    pub fn new(alloc: Global, asker: A, steps: &'a mut Steps<L>) -> Oracle<'a, A, L> {
+        Oracle {
+            alloc,
+            tools: Tools::new(alloc),
+            asker,
+            steps,
+        }
+    }
+
+    /// Where memory is taken from.
+    pub fn alloc(&self) -> Global {
+        self.alloc
+    }
+
+    /// The verdict on a question in bounds, where it is final.
+    pub fn decided(&mut self, query: &Query) -> Option<Verdict>
+        requires { in_bounds query.now ≡ true }
+        ensures decided { result ≡ decided query.now }
+        ensures verdict { IfSome result (λ told. told ≡ verdict_of query.now) }
+    {
+        let verdict = self.asker.ask(query, &self.tools, self.steps);
+        if is_final(query, &verdict) {
+            Some(verdict)
+        } else {
+            None
+        }
+    }
+
+    /// The derivation of a question in bounds whose verdict is yes by this step. The answer is `Memory` only for want of memory.
+    pub fn derivation(&mut self, query: &Query, step: &Step) -> Result<Derivation, Memory>
+        requires bounds { in_bounds query.now ≡ true }
+        requires yes { verdict_of query.now ≡ Yes step.now }
+        ensures lines { IfOk result (λ lines. lines ≡ derivation query.now) }
+        ensures sound { IfOk result IsSound }
+        ensures few { IfOk result HasSpellable }
+        ensures design { IfOk result (λ lines. Meets query.now (replayed lines)) }
+    {
+        derive(
+            self.alloc,
+            query,
+            step,
+            &self.tools,
+            &mut self.asker,
+            self.steps,
+        )
+    }
+
+    /// The same with the blocks that the derivation gives.
+    pub fn design(&mut self, query: &Query, step: &Step) -> Result<Design, Memory>
+        requires bounds { in_bounds query.now ≡ true }
+        requires yes { verdict_of query.now ≡ Yes step.now }
+        ensures derivation { IfOk result (λ design. design.derivation ≡ derivation query.now) }
+        ensures blocks { IfOk result (λ design. design.blocks ≡ replayed (derivation query.now)) }
+        ensures few { IfOk result (λ design. HasSpellable design.derivation) }
+        ensures design { IfOk result (λ design. Meets query.now design.blocks) }
+    {
+        let derivation = self.derivation(query, step)?;
+        match replay(self.alloc, &derivation, &self.tools) {
+            Ok((_, blocks)) => Ok(Design { derivation, blocks }),
+            Err(ReplayEnd::Memory) => Err(Memory),
+            Err(ReplayEnd::BadLine { .. }) => unreachable!(),
+        }
+    }
+}

@@ -1,0 +1,5 @@
+pub mod Words
+pub mod Outputs
+pub mod Printable
+pub mod Endings
+mod Samples

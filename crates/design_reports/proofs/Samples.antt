@@ -1,0 +1,40 @@
+-- Small reports, computed.
+use Rattle.std.proofs.Common.{◌≡◌, [], ◌∷◌, ◌++◌, refl}
+use Rattle.std.specs.Fmt.{digits}
+use Rattle.std.specs.Prelude.{codes}
+use Rattle.design_base.specs.declared.query.Query.TheVariants.{Td, Bibd}
+use Rattle.design_base.specs.declared.verdict.Verdict.TheVariants.{No, Unknown}
+use Rattle.design_base.specs.declared.verdict.Criterion.TheVariants.{Groups}
+use Rattle.design_checks.specs.declared.finding.Finding.TheVariants.{BadPair}
+use Rattle.design_lines.specs.Printed.{counted_line, question_words}
+use Rattle.design_lines.specs.declared.command.Reason.TheVariants.{OutOfBounds, Unknown as UnknownWord}
+use Rattle.design_reports.specs.Answers.{message_at}
+use Rattle.design_reports.specs.Endings.{message_of}
+use Rattle.design_reports.specs.Reports.{found_report, output, silent, verdict_report}
+use Rattle.design_reports.specs.Texts.{finding_line, verdict_line}
+use Rattle.design_reports.specs.declared.ending.Ending.TheVariants.{Refused}
+use Rattle.design_reports.specs.declared.status.Status.TheVariants.{Usage, WriteFault}
+
+unknown_report : output (verdict_report (Td 4 6) Unknown []) ≡ codes "td 4 6 unknown" ++ 10 ∷ []
+unfolding verdict_line question_words digits
+unknown_report = refl
+
+no_report : output (verdict_report (Td 5 2) (No Groups) []) ≡ codes "td 5 2 no groups" ++ 10 ∷ []
+unfolding verdict_line question_words digits
+no_report = refl
+
+pair_report : output (found_report (Bibd 7 3 1) (BadPair 0 5 2)) ≡ codes "bibd 7 3 1 invalid pair 0 5 covered 2" ++ 10 ∷ []
+unfolding finding_line question_words digits
+pair_report = refl
+
+refused_message : message_at (silent (Refused (UnknownWord 2))) Usage ≡ codes "usage: unknown word at 2" ++ 10 ∷ []
+unfolding message_of counted_line digits
+refused_message = refl
+
+bounds_message : message_at (silent (Refused OutOfBounds)) Usage ≡ codes "usage: out of bounds" ++ 10 ∷ []
+unfolding message_of counted_line digits
+bounds_message = refl
+
+fault_message : message_at (verdict_report (Td 4 6) Unknown []) WriteFault ≡ codes "write fault" ++ 10 ∷ []
+unfolding message_of counted_line digits
+fault_message = refl

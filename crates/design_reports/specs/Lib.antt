@@ -1,0 +1,5 @@
+pub mod Endings
+pub mod Texts
+pub mod Parts
+pub mod Reports
+pub mod Answers

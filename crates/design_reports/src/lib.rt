@@ -1,0 +1,15 @@
+//! What the program says: the lines of a report and the blocks of a design, each written whole, how an answer ends, and the
+//! status and the message of a run.
+#![tactic(auto)]
+
+mod ending;
+mod lines;
+mod parts;
+mod saying;
+mod status;
+
+pub use ending::Ending;
+pub use lines::{write_because, write_finding, write_verdict};
+pub use parts::{Part, part_of_blocks, write_part};
+pub use saying::say;
+pub use status::Status;

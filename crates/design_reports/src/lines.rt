@@ -1,0 +1,159 @@
+//! The lines of a report, each put together in place and written whole.
+ghost use Rattle.std.specs.Prelude.{◌≡◌, ◌<◌, ◌≤◌, [], ◌∷◌, All, Some, length, slice_range};
+ghost use Rattle.std.specs.Fmt.{decimal};
+ghost use Rattle.std.specs.List.{flat_map};
+ghost use Rattle.design_io.specs.Faults.{HasCause};
+ghost use Rattle.design_io.specs.Pieces.{AppendsWhole};
+ghost use Rattle.design_base.specs.declared.limits.TheConstants.{POINTS_MAX};
+ghost use Rattle.design_lines.specs.Printed.{counted_line as counted_text};
+ghost use Rattle.design_reports.specs.Texts.{because_lines as because_texts, finding_line as finding_text, row_line as row_text, verdict_line as verdict_text};
+
+use design_base::{Query, Verdict};
+use design_checks::Finding;
+use design_io::{Failed, Sink, write_whole};
+use design_lines::{Line, counted_line, criterion_name, question_text, row_line, step_text};
+use incidence::Rows;
+
+/// The question and its verdict.
+#[tactic(auto, using(crate::proofs::Words::question_lines), unfolding(crate::specs::Texts::verdict_line))]
+fn verdict_line(query: &Query, verdict: &Verdict) -> Line
+    ensures { result ≡ verdict_text query.now verdict.now }
+{
+    let mut line = Line::new();
+    line.push_word(question_text(query).bytes());
+    match verdict {
+        Verdict::Yes(step) => {
+            line.push_word(b"yes");
+            line.push_word(step_text(step).bytes());
+        }
+        Verdict::No(criterion) => {
+            line.push_word(b"no");
+            line.push_word(criterion_name(*criterion).as_bytes());
+        }
+        Verdict::Unknown => line.push_word(b"unknown"),
+    }
+    line.end();
+    line
+}
+
+// The two numbers that a criterion compares.
+#[tactic(auto, using(crate::proofs::Words::line_of_three))]
+fn because_line(first: u32, second: u32) -> Line
+    ensures { because_texts (Some (first, second)) ≡ result ∷ [] }
+{
+    let mut line = Line::new();
+    line.push_word(b"because");
+    line.push_number(u64::from(first));
+    line.push_number(u64::from(second));
+    line.end();
+    line
+}
+
+// That the blocks are valid.
+#[tactic(auto, using(crate::proofs::Words::question_lines), unfolding(crate::specs::Texts::finding_line))]
+fn valid_line(query: &Query) -> Line
+    ensures { result ≡ finding_text query.now Finding.Valid }
+{
+    let mut line = Line::new();
+    line.push_word(question_text(query).bytes());
+    line.push_word(b"valid");
+    line.end();
+    line
+}
+
+// The first bad block.
+#[tactic(auto, using(crate::proofs::Words::question_lines), unfolding(crate::specs::Texts::finding_line))]
+fn bad_block_line(query: &Query, index: u32) -> Line
+    ensures { result ≡ finding_text query.now (Finding.BadBlock index) }
+{
+    let mut line = Line::new();
+    line.push_word(question_text(query).bytes());
+    line.push_word(b"invalid block");
+    line.push_number(u64::from(index));
+    line.end();
+    line
+}
+
+// The first bad pair.
+#[tactic(auto, using(crate::proofs::Words::question_lines), unfolding(crate::specs::Texts::finding_line))]
+fn bad_pair_line(query: &Query, x: u16, y: u16, count: u32) -> Line
+    ensures { result ≡ finding_text query.now (Finding.BadPair x y count) }
+{
+    let mut line = Line::new();
+    line.push_word(question_text(query).bytes());
+    line.push_word(b"invalid pair");
+    line.push_number(u64::from(x));
+    line.push_number(u64::from(y));
+    line.push_word(b"covered");
+    line.push_number(u64::from(count));
+    line.end();
+    line
+}
+
+// What the check of blocks found.
+fn finding_line(query: &Query, finding: Finding) -> Line
+    ensures { result ≡ finding_text query.now finding }
+{
+    match finding {
+        Finding::Valid => valid_line(query),
+        Finding::BadBlock { index } => bad_block_line(query, index),
+        Finding::BadPair { x, y, count } => bad_pair_line(query, x, y, count),
+    }
+}
+
+// Writes the numbers of a row on a line.
+fn write_row<K: Sink>(out: &mut K, row: &[u16]) -> Result<(), Failed>
+    requires { length row.now ≤ POINTS_MAX }
+    ensures bytes { AppendsWhole (K.held out.old) (K.held out.new) result (row_text row.now) }
+    ensures cause { HasCause (K.faults out.old) (K.faults out.new) result }
+{
+    write_whole(out, row_line(row).bytes())
+}
+
+/// Writes a word and a number on a line.
+pub fn write_counted<K: Sink>(out: &mut K, word: &str, number: u64) -> Result<(), Failed>
+    requires started { 0 < length word.now }
+    requires short { length word.now ≤ 100 }
+    ensures bytes { AppendsWhole (K.held out.old) (K.held out.new) result (counted_text word.now number) }
+    ensures cause { HasCause (K.faults out.old) (K.faults out.new) result }
+{
+    write_whole(out, counted_line(word, number).bytes())
+}
+
+/// Writes the numbers of the rows from place `start` on, below place `end`, each row on a line.
+#[tactic(auto, using(crate::proofs::Outputs::rows_none))]
+pub fn write_rows<K: Sink>(out: &mut K, rows: &Rows, start: usize, end: usize) -> Result<(), Failed>
+    requires within { (start ≤ end) × (end ≤ length rows.now) }
+    requires printable { All (λ row. length row ≤ POINTS_MAX) rows.now }
+    ensures bytes { AppendsWhole (K.held out.old) (K.held out.new) result (flat_map row_text (slice_range rows.now start end)) }
+    ensures cause { HasCause (K.faults out.old) (K.faults out.new) result }
+{
+    for i in start..end {
+        write_row(out, rows.row(i))?;
+    }
+    Ok(())
+}
+
+/// Writes the verdict.
+pub fn write_verdict<K: Sink>(out: &mut K, query: &Query, verdict: &Verdict) -> Result<(), Failed>
+    ensures bytes { AppendsWhole (K.held out.old) (K.held out.new) result (verdict_text query.now verdict.now) }
+    ensures cause { HasCause (K.faults out.old) (K.faults out.new) result }
+{
+    write_whole(out, verdict_line(query, verdict).bytes())
+}
+
+/// Writes the two numbers that a criterion compares.
+pub fn write_because<K: Sink>(out: &mut K, first: u32, second: u32) -> Result<(), Failed>
+    ensures bytes { AppendsWhole (K.held out.old) (K.held out.new) result (flat_map (λ line. line) (because_texts (Some (first, second)))) }
+    ensures cause { HasCause (K.faults out.old) (K.faults out.new) result }
+{
+    write_whole(out, because_line(first, second).bytes())
+}
+
+/// Writes what the check of blocks found.
+pub fn write_finding<K: Sink>(out: &mut K, query: &Query, finding: Finding) -> Result<(), Failed>
+    ensures bytes { AppendsWhole (K.held out.old) (K.held out.new) result (finding_text query.now finding) }
+    ensures cause { HasCause (K.faults out.old) (K.faults out.new) result }
+{
+    write_whole(out, finding_line(query, finding).bytes())
+}
