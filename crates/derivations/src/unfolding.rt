@@ -1,11 +1,11 @@
 // The unfolding of a verdict into lines.
-ghost use Rattle.std.specs.Prelude.{◌≡◌, ◌≤◌, true, ◌++◌, length, All, Some, IfOk, OnOk};
-ghost use Rattle.design_base.specs.declared.limits.TheConstants.{PREMISES_MAX};
+ghost use Rattle.std.specs.Prelude.{◌≡◌, true, ◌++◌, length, Some, IfOk, OnOk};
 ghost use Rattle.design_base.specs.Limits.{in_bounds};
 ghost use Rattle.design_base.specs.declared.verdict.Verdict.TheVariants.{Yes};
 ghost use Rattle.rule_table.specs.Verdicts.{verdict};
 ghost use Rattle.derivations.specs.Derivations.{derivation, derivation_behind, last_question, replayed, IsSound};
 ghost use Rattle.design_base.specs.Meets.{Meets};
+ghost use Rattle.derivations.specs.Spelled.{ArePrintable};
 ghost use Rattle.rule_table.specs.Told.{KeptAfter};
 
 use crate::line::{Derivation, Line};
@@ -69,7 +69,7 @@ pub fn derive<A: Asker, L: Ledger>(
     requires verdict { verdict q.now ≡ Yes step.now }
     ensures lines { IfOk result (λ lines. lines ≡ derivation q.now) }
     ensures sound { IfOk result IsSound }
-    ensures few { IfOk result (λ lines. All (λ l. length l.from ≤ PREMISES_MAX) lines) }
+    ensures few { IfOk result ArePrintable }
     ensures question { IfOk result (λ lines. last_question lines ≡ Some q.now) }
     ensures design { IfOk result (λ lines. Meets q.now (replayed lines)) }
     ensures memo { A.memo asker.new ≡ A.memo asker.old }

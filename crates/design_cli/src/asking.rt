@@ -6,7 +6,7 @@ ghost use Rattle.derivation_text.specs.Text.{derivation_lines};
 ghost use Rattle.derivations.specs.Derivations.{derivation as derivation_of};
 ghost use Rattle.design_base.specs.Limits.{in_bounds};
 ghost use Rattle.design_cli.specs.Decided.{decided};
-ghost use Rattle.design_cli.specs.Designs.{HasSpellable};
+ghost use Rattle.derivations.specs.Spelled.{ArePrintable};
 ghost use Rattle.design_cli.specs.Report.{IsRefused, ask_report, explain_report};
 ghost use Rattle.design_io.specs.Faults.{HasCause};
 ghost use Rattle.design_io.specs.Pieces.{AppendsWhole};
@@ -67,7 +67,7 @@ fn write_derivation<K: Sink>(
     step: &Step,
     derivation: &Derivation,
 ) -> Result<(), Failed>
-    requires { HasSpellable derivation.now }
+    requires { ArePrintable derivation.now }
     ensures bytes { AppendsWhole (K.held out.old) (K.held out.new) result (verdict_text query.now (Verdict.Yes step.now) ++ flat_map (λ line. line) (derivation_lines derivation.now)) }
     ensures cause { HasCause (K.faults out.old) (K.faults out.new) result }
 {
@@ -78,7 +78,7 @@ fn write_derivation<K: Sink>(
 // Explains a question that the table of rules answers by yes, by its derivation.
 fn explain_yes<K: Sink>(query: &Query, step: &Step, derivation: &Derivation, out: &mut K) -> Ending
     requires derivation { derivation.now ≡ derivation_of query.now }
-    requires few { HasSpellable derivation.now }
+    requires few { ArePrintable derivation.now }
     ensures ends { EndsWith (explain_report query.now (Some (Verdict.Yes step.now))) result (K.held out.old) (K.held out.new) }
     ensures cause { HasFault result (K.faults out.old) (K.faults out.new) }
     ensures answered { IsAnswer result }

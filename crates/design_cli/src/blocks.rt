@@ -64,6 +64,7 @@ fn ends_short(rows: &Rows, least: usize) -> bool
 }
 
 // Appends the row of a line, unless a row of fewer than `least` numbers stands before it.
+#[tactic(auto, using(design_lines::proofs::RowNumbers::room_for_numbers))]
 fn push_until_short(
     alloc: Global,
     rows: &mut Rows,

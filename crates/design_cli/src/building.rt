@@ -6,7 +6,7 @@ ghost use Rattle.derivation_text.specs.Text.{derivation_lines};
 ghost use Rattle.design_base.specs.Limits.{in_bounds};
 ghost use Rattle.design_base.specs.Meets.{Meets};
 ghost use Rattle.design_cli.specs.Decided.{decided};
-ghost use Rattle.design_cli.specs.Designs.{HasSpellable};
+ghost use Rattle.derivations.specs.Spelled.{ArePrintable};
 ghost use Rattle.design_cli.specs.Report.{IsRefused, build_report, built_lines, chosen_report};
 ghost use Rattle.design_io.specs.Faults.{HasCause};
 ghost use Rattle.design_io.specs.Pieces.{AppendsWhole};
@@ -40,7 +40,7 @@ fn write_yes<K: Sink>(
     derivation: &Derivation,
     part: &Part,
 ) -> Result<(), Failed>
-    requires few { HasSpellable derivation.now }
+    requires few { ArePrintable derivation.now }
     requires printable { IsPrintable part.now }
     ensures bytes { AppendsWhole (K.held out.old) (K.held out.new) result (verdict_text query.now (Verdict.Yes step.now) ++ (flat_map (λ line. line) (derivation_lines derivation.now) ++ flat_map (λ line. line) (part_lines part.now))) }
     ensures cause { HasCause (K.faults out.old) (K.faults out.new) result }
@@ -61,7 +61,7 @@ fn answer_design<K: Sink>(
     out: &mut K,
 ) -> Ending
     requires bounds { in_bounds query.now ≡ true }
-    requires few { HasSpellable design.derivation }
+    requires few { ArePrintable design.derivation }
     requires design { Meets query.now design.blocks }
     ensures ends { EndsWith (verdict_report query.now (Verdict.Yes step.now) (built_lines query.now shape design.derivation design.blocks)) result (K.held out.old) (K.held out.new) }
     ensures cause { HasFault result (K.faults out.old) (K.faults out.new) }

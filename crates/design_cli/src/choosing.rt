@@ -5,7 +5,7 @@ ghost use Rattle.derivations.specs.Derivations.{line};
 ghost use Rattle.design_base.specs.Limits.{in_bounds};
 ghost use Rattle.design_base.specs.Meets.{Meets};
 ghost use Rattle.design_base.specs.declared.verdict.Verdict.TheVariants.{Yes};
-ghost use Rattle.design_cli.specs.Designs.{HasSpellable};
+ghost use Rattle.derivations.specs.Spelled.{ArePrintable};
 
 use crate::oracle::Design;
 use chosen_designs::chosen_blocks;
@@ -16,7 +16,7 @@ use std::alloc::Global;
 // The derivation of one line, that names no premise.
 fn one_line(alloc: Global, query: &Query, step: &Step) -> Result<Derivation, Memory>
     ensures lines { IfOk result (λ lines. lines ≡ line query.now step.now [] ∷ []) }
-    ensures few { IfOk result HasSpellable }
+    ensures few { IfOk result ArePrintable }
 {
     let mut lines = Derivation::new(alloc);
     lines.push(Line {
@@ -34,7 +34,7 @@ pub fn chosen_design(alloc: Global, query: &Query, step: &Step) -> Result<Design
     requires yes { chosen_verdict query.now ≡ Some (Yes step.now) }
     ensures derivation { IfOk result (λ design. design.derivation ≡ line query.now step.now [] ∷ []) }
     ensures blocks { IfOk result (λ design. design.blocks ≡ blocks_at query.now step.now) }
-    ensures few { IfOk result (λ design. HasSpellable design.derivation) }
+    ensures few { IfOk result (λ design. ArePrintable design.derivation) }
     ensures design { IfOk result (λ design. Meets query.now design.blocks) }
 {
     let derivation = one_line(alloc, query, step)?;

@@ -5,7 +5,7 @@ ghost use Rattle.design_base.specs.Limits.{in_bounds};
 ghost use Rattle.design_base.specs.Meets.{Meets};
 ghost use Rattle.design_base.specs.declared.verdict.Verdict.TheVariants.{Yes};
 ghost use Rattle.design_cli.specs.Decided.{decided, is_final as is_final_of};
-ghost use Rattle.design_cli.specs.Designs.{HasSpellable};
+ghost use Rattle.derivations.specs.Spelled.{ArePrintable};
 ghost use Rattle.rule_table.specs.Verdicts.{verdict as verdict_of};
 
 use derivations::{Derivation, ReplayEnd, derive, replay};
@@ -79,7 +79,7 @@ impl<'a, A: Asker + Drop, L: Ledger> Oracle<'a, A, L> {
         requires yes { verdict_of query.now ≡ Yes step.now }
         ensures lines { IfOk result (λ lines. lines ≡ derivation query.now) }
         ensures sound { IfOk result IsSound }
-        ensures few { IfOk result HasSpellable }
+        ensures few { IfOk result ArePrintable }
         ensures design { IfOk result (λ lines. Meets query.now (replayed lines)) }
     {
         derive(
@@ -98,7 +98,7 @@ impl<'a, A: Asker + Drop, L: Ledger> Oracle<'a, A, L> {
         requires yes { verdict_of query.now ≡ Yes step.now }
         ensures derivation { IfOk result (λ design. design.derivation ≡ derivation query.now) }
         ensures blocks { IfOk result (λ design. design.blocks ≡ replayed (derivation query.now)) }
-        ensures few { IfOk result (λ design. HasSpellable design.derivation) }
+        ensures few { IfOk result (λ design. ArePrintable design.derivation) }
         ensures design { IfOk result (λ design. Meets query.now design.blocks) }
     {
         let derivation = self.derivation(query, step)?;

@@ -8,7 +8,7 @@ use crate::status::Status;
 use design_base::Verdict;
 use design_checks::Finding;
 use design_io::ReadEnd;
-use design_lines::{Line, Reason, counted_line};
+use design_lines::{TextLine, Reason, counted_line};
 
 /// How an answer ends.
 #[derive(Clone, Copy, Debug, PartialEq, Eq)]
@@ -28,18 +28,18 @@ pub enum Ending {
 }
 
 // A text, ended as a line.
-fn said(text: &str) -> Line
+fn said(text: &str) -> TextLine
     requires { length text.now ≤ 100 }
     ensures { result ≡ line_of (text.now ∷ []) }
 {
-    let mut line = Line::new();
+    let mut line = TextLine::new();
     line.push_word(text.as_bytes());
     line.end();
     line
 }
 
 // What is said of words that are refused.
-fn refusal(reason: Reason) -> Line
+fn refusal(reason: Reason) -> TextLine
     ensures { result ≡ refusal_line reason }
 {
     match reason {
@@ -102,11 +102,11 @@ impl Ending {
 
     /// The line on the error output, which is empty where nothing is said.
     #[tactic(auto, unfolding(crate::specs::Endings::message_of))]
-    pub fn message(&self) -> Line
+    pub fn message(&self) -> TextLine
         ensures { result ≡ message_of self.now }
     {
         match *self {
-            Ending::Yes | Ending::No | Ending::Unknown => Line::new(),
+            Ending::Yes | Ending::No | Ending::Unknown => TextLine::new(),
             Ending::Refused { reason } => refusal(reason),
             Ending::NotBuilt => said("usage: not built"),
             Ending::BadInput { line } => counted_line("bad input at line", u64::from(line)),

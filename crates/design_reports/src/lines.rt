@@ -11,15 +11,15 @@ ghost use Rattle.design_reports.specs.Texts.{because_lines as because_texts, fin
 use design_base::{Query, Verdict};
 use design_checks::Finding;
 use design_io::{Failed, Sink, write_whole};
-use design_lines::{Line, counted_line, criterion_name, question_text, row_line, step_text};
+use design_lines::{TextLine, counted_line, criterion_name, question_text, row_line, step_text};
 use incidence::Rows;
 
 /// The question and its verdict.
 #[tactic(auto, using(crate::proofs::Words::question_lines), unfolding(crate::specs::Texts::verdict_line))]
-fn verdict_line(query: &Query, verdict: &Verdict) -> Line
+fn verdict_line(query: &Query, verdict: &Verdict) -> TextLine
     ensures { result ≡ verdict_text query.now verdict.now }
 {
-    let mut line = Line::new();
+    let mut line = TextLine::new();
     line.push_word(question_text(query).bytes());
     match verdict {
         Verdict::Yes(step) => {
@@ -38,10 +38,10 @@ fn verdict_line(query: &Query, verdict: &Verdict) -> Line
 
 // The two numbers that a criterion compares.
 #[tactic(auto, using(crate::proofs::Words::line_of_three))]
-fn because_line(first: u32, second: u32) -> Line
+fn because_line(first: u32, second: u32) -> TextLine
     ensures { because_texts (Some (first, second)) ≡ result ∷ [] }
 {
-    let mut line = Line::new();
+    let mut line = TextLine::new();
     line.push_word(b"because");
     line.push_number(u64::from(first));
     line.push_number(u64::from(second));
@@ -51,10 +51,10 @@ fn because_line(first: u32, second: u32) -> Line
 
 // That the blocks are valid.
 #[tactic(auto, using(crate::proofs::Words::question_lines), unfolding(crate::specs::Texts::finding_line))]
-fn valid_line(query: &Query) -> Line
+fn valid_line(query: &Query) -> TextLine
     ensures { result ≡ finding_text query.now Finding.Valid }
 {
-    let mut line = Line::new();
+    let mut line = TextLine::new();
     line.push_word(question_text(query).bytes());
     line.push_word(b"valid");
     line.end();
@@ -63,10 +63,10 @@ fn valid_line(query: &Query) -> Line
 
 // The first bad block.
 #[tactic(auto, using(crate::proofs::Words::question_lines), unfolding(crate::specs::Texts::finding_line))]
-fn bad_block_line(query: &Query, index: u32) -> Line
+fn bad_block_line(query: &Query, index: u32) -> TextLine
     ensures { result ≡ finding_text query.now (Finding.BadBlock index) }
 {
-    let mut line = Line::new();
+    let mut line = TextLine::new();
     line.push_word(question_text(query).bytes());
     line.push_word(b"invalid block");
     line.push_number(u64::from(index));
@@ -76,10 +76,10 @@ fn bad_block_line(query: &Query, index: u32) -> Line
 
 // The first bad pair.
 #[tactic(auto, using(crate::proofs::Words::question_lines), unfolding(crate::specs::Texts::finding_line))]
-fn bad_pair_line(query: &Query, x: u16, y: u16, count: u32) -> Line
+fn bad_pair_line(query: &Query, x: u16, y: u16, count: u32) -> TextLine
     ensures { result ≡ finding_text query.now (Finding.BadPair x y count) }
 {
-    let mut line = Line::new();
+    let mut line = TextLine::new();
     line.push_word(question_text(query).bytes());
     line.push_word(b"invalid pair");
     line.push_number(u64::from(x));
@@ -91,7 +91,7 @@ fn bad_pair_line(query: &Query, x: u16, y: u16, count: u32) -> Line
 }
 
 // What the check of blocks found.
-fn finding_line(query: &Query, finding: Finding) -> Line
+fn finding_line(query: &Query, finding: Finding) -> TextLine
     ensures { result ≡ finding_text query.now finding }
 {
     match finding {
