@@ -6,3 +6,4 @@ pub mod Residues
 pub mod OnePlace
 pub mod ButOne
 pub mod Squares
+pub mod Grids
