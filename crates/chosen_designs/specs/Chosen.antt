@@ -13,7 +13,7 @@ use Rattle.design_base.specs.declared.verdict.Verdict.TheVariants.{Yes, No}
 use Rattle.design_base.specs.Meets.{Meets}
 use Rattle.design_base.specs.Steps.{Step, step}
 use Rattle.spaces.specs.Lines.{affine_lines, projective_lines}
-use Rattle.spaces.specs.Points.{point_count}
+use Rattle.design_base.specs.Geometries.{point_count}
 use Rattle.triple_systems.specs.Bose.{bose_blocks}
 
 -- triple systems: none on an even number of points, and Bose's on 6 t + 3 points with t at least 1
