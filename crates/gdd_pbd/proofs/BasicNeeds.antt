@@ -4,12 +4,12 @@ use Rattle.design_base.specs.Blocks.{IsBibd}
 use Rattle.design_base.specs.Canonical.{canonical}
 use Rattle.design_base.specs.declared.limits.TheConstants.{PACKED_MAX}
 use Rattle.incidence.specs.Packed.{size_of}
-use Rattle.block_counts.specs.Counts.{replication_number}
+use Rattle.block_counts.specs.Counts.{complement_cover}
 use Rattle.gdd_pbd.proofs.BasicDesigns.{pairs_is_bibd, sum_is_bibd, whole_is_bibd}
 use Rattle.gdd_pbd.proofs.Complements.{complement_of, omit_is_bibd}
 use Rattle.gdd_pbd.proofs.Sizes.{bibd_count, bibd_size}
 use Rattle.gdd_pbd.specs.Basic.{complement, omit_blocks, pair_blocks, whole_blocks}
-use Rattle.gdd_pbd.specs.Conditions.{CanComplement, CanOmit, CanSum, block_number}
+use Rattle.gdd_pbd.specs.Conditions.{CanComplement, CanOmit, CanSum}
 use Rattle.gdd_pbd.specs.Room.{most_blocks}
 
 -- ---- designs of all points, of pairs, of all points but one
@@ -30,8 +30,8 @@ pub sum_design : (v k l i : ℕ) (B C rows : List (List ℕ)) → CanSum v k l i
 sum_design v k l i B C rows can is = subst (λ D. IsBibd D v k l) (sym is) (sum_is_bibd B C v k l i can.most can.first can.second)
 
 pub complement_room : (v k l : ℕ) (B : List (List ℕ)) → CanComplement v k l B → length B ≤ 6 * most_blocks
-complement_room v k l B can = bibd_count v (v - k) (block_number v k l + l - 2 * replication_number v k l) B (omega (arith, can.left)) can.points can.covers can.design
+complement_room v k l B can = bibd_count v (v - k) (complement_cover v k l) B (omega (arith, can.left)) can.points can.covers can.design
 
 pub complement_design : (v k l : ℕ) (B rows : List (List ℕ)) → CanComplement v k l B → rows ≡ canonical (complement v B) → IsBibd rows v k l
 complement_design v k l B rows can is = subst (λ D. IsBibd D v k l) (sym is)
-    (complement_of B v k l can.two can.left can.replication can.count (block_number v k l + l - 2 * replication_number v k l) (omega (arith, can.some)) can.design)
+    (complement_of B v k l can.two can.left can.replication can.count (complement_cover v k l) (omega (arith, can.some)) can.design)

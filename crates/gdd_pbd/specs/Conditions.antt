@@ -1,6 +1,6 @@
 -- What the builders need: each record is the one condition of a builder, and what the theorem begins with that its list is a design.
 use Rattle.std.specs.Prelude.{List, None, Option, Some, ℕ, ◌%◌, ◌*◌, ◌+◌, ◌-◌, ◌/◌, ◌<◌, ◌≡◌, ◌≤◌, ◌⊎◌}
-use Rattle.block_counts.specs.Counts.{replication_number}
+use Rattle.block_counts.specs.Counts.{block_number, complement_cover, replication_number}
 use Rattle.design_base.specs.Blocks.{IsBibd, IsGdd, IsPbd, IsTd}
 use Rattle.design_base.specs.declared.limits.TheConstants.{COVER_MAX, POINTS_MAX}
 
@@ -27,11 +27,7 @@ pub record CanSum (v k l i : ℕ) (B C : List (List ℕ)) : Type 0 where
   pub first : IsBibd B v k i
   pub second : IsBibd C v k (l - i)
 
--- how many blocks a BIBD has
-abbrev pub block_number : ℕ → ℕ → ℕ → ℕ
-block_number v k l = v * replication_number v k l / k
-
--- a design of blocks of v - k points: its complements are to have l blocks through two points
+-- a design of blocks of v - k points, whose complements are to have l blocks through two points
 pub record CanComplement (v k l : ℕ) (B : List (List ℕ)) : Type 0 where
   pub two : 2 ≤ k
   pub left : k + 2 ≤ v
@@ -39,8 +35,8 @@ pub record CanComplement (v k l : ℕ) (B : List (List ℕ)) : Type 0 where
   pub replication : l * (v - 1) % (k - 1) ≡ 0
   pub count : v * replication_number v k l % k ≡ 0
   pub some : 2 * replication_number v k l ≤ block_number v k l + l
-  pub covers : block_number v k l + l - 2 * replication_number v k l ≤ COVER_MAX
-  pub design : IsBibd B v (v - k) (block_number v k l + l - 2 * replication_number v k l)
+  pub covers : complement_cover v k l ≤ COVER_MAX
+  pub design : IsBibd B v (v - k) (complement_cover v k l)
 
 -- ---- filled groups
 
