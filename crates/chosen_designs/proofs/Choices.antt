@@ -84,12 +84,11 @@ lines_built v k s = of (affine_verdict v k) refl
     of (Some verdict) is e = affine_built v k s (is ∙ e)
 
 triples_built : (v : ℕ) (s : Step) → triple_verdict v ≡ Some (Yes s) → IsBuilt s.rule v 3 s
-triples_built v s = cond_both (v % 2 == 0 && nat_le 4 v) _ _ (λ o. o ≡ Some (Yes s) → IsBuilt s.rule v 3 s) (λ _ e. cc)
-    (λ _. cond_both (v % 6 == 3 && nat_le 9 v) _ _ (λ o. o ≡ Some (Yes s) → IsBuilt s.rule v 3 s)
+triples_built v s = cond_both (v % 6 == 3 && nat_le 9 v) _ _ (λ o. o ≡ Some (Yes s) → IsBuilt s.rule v 3 s)
     (λ t e.
     let same : step Bose 0 0 0 0 ≡ s = cc in
     subst (λ s. IsBuilt s.rule v 3 s) same (eqb-true (v % 6) 3 (and_parts (v % 6 == 3) (nat_le 9 v) t).0, refl))
-    (λ _ e. cc))
+    (λ _ e. cc)
 
 pub is_built : (v k l : ℕ) (s : Step) → chosen (Bibd v k l) ≡ Some (Yes s) → IsBuilt s.rule v k s × (l ≡ 1)
 is_built v k l s = cond_both (k == 3 && l == 1) _ _ (λ o. o ≡ Some (Yes s) → IsBuilt s.rule v k s × (l ≡ 1))

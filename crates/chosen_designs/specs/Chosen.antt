@@ -7,19 +7,17 @@ use Rattle.design_base.specs.declared.query.Query.{Query}
 use Rattle.design_base.specs.declared.query.Query.TheVariants.{Bibd}
 use Rattle.design_base.specs.declared.rule.Rule.{Rule}
 use Rattle.design_base.specs.declared.rule.Rule.TheVariants.{Bose, Affine, Projective}
-use Rattle.design_base.specs.declared.verdict.Criterion.TheVariants.{Replication}
 use Rattle.design_base.specs.declared.verdict.Verdict.{Verdict}
-use Rattle.design_base.specs.declared.verdict.Verdict.TheVariants.{Yes, No}
+use Rattle.design_base.specs.declared.verdict.Verdict.TheVariants.{Yes}
 use Rattle.design_base.specs.Meets.{Meets}
 use Rattle.design_base.specs.Steps.{Step, step}
 use Rattle.spaces.specs.Lines.{affine_lines, projective_lines}
 use Rattle.design_base.specs.Geometries.{point_count}
 use Rattle.triple_systems.specs.Bose.{bose_blocks}
 
--- triple systems: none on an even number of points, and Bose's on 6 t + 3 points with t at least 1
+-- Bose's triple systems on 6 t + 3 points with t at least 1
 abbrev pub triple_verdict : ℕ → Option Verdict
 triple_verdict v =
-    if v % 2 == 0 && nat_le 4 v then Some (No Replication) else
     if v % 6 == 3 && nat_le 9 v then Some (Yes (step Bose 0 0 0 0)) else
     None
 

@@ -4,15 +4,13 @@ ghost use Rattle.design_base.specs.Limits.{in_bounds};
 ghost use Rattle.chosen_designs.specs.Chosen.{EachChosenIsDesigned, bibd_verdict as verdict_of_bibd, chosen as chosen_verdict, triple_verdict as verdict_of_triples};
 
 use crate::geometries::geometry_verdict;
-use design_base::{Criterion, Query, Rule, Step, Verdict};
+use design_base::{Query, Rule, Step, Verdict};
 
 // The verdict on the triple systems of v points in which each pair lies in one block, where it is known.
 fn triple_verdict(v: u16) -> Option<Verdict>
     ensures { result ≡ verdict_of_triples v }
 {
-    if v % 2 == 0 && v >= 4 {
-        Some(Verdict::No(Criterion::Replication))
-    } else if v % 6 == 3 && v >= 9 {
+    if v % 6 == 3 && v >= 9 {
         Some(Verdict::Yes(Step::new(Rule::Bose, 0, 0, 0, 0)))
     } else {
         None
