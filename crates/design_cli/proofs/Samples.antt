@@ -30,7 +30,7 @@ unfolding parse other_lines input_line input_lines batch_lines other_questions q
 ask_foo = refl
 
 -- `build bibd 8 3 1`
-build_eight : output (build_report (Bibd 8 3 1) Blocks None) ≡ codes "bibd 8 3 1 no replication" ++ 10 ∷ []
+build_eight : output (build_report (Bibd 8 3 1) Blocks (Some (No Replication))) ≡ codes "bibd 8 3 1 no replication" ++ 10 ∷ []
 unfolding verdict_line question_words digits
 build_eight = refl
 

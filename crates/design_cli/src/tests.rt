@@ -135,8 +135,8 @@ fn words_are_refused(rt: HostRuntime) -> Result<(), Fail> {
         ("ask td 3 4 5", "usage: surplus word at 5\n"),
         ("check mols 4 65534", "usage: out of bounds\n"),
         ("build bibd 7 3 1", "usage: not built\n"),
-        ("ask bibd 8 3 1", "usage: not built\n"),
-        ("explain gdd 4 3 2", "usage: not built\n"),
+        ("ask df z 13 3 1", "usage: not built\n"),
+        ("explain gdd 3 2 3", "usage: not built\n"),
         ("closure td 5 4", "usage: not built\n"),
     ] {
         let right = holds(rt.alloc(), &told(words, FANO, "", message, 64))?;
@@ -165,8 +165,38 @@ fn designs_are_built(rt: HostRuntime) -> Result<(), Fail> {
         let right = holds(rt.alloc(), &row)?;
         assert!(rt; right, "at {words}, where call {failing} fails");
     }
-    let no = told("build bibd 8 3 1", "", "bibd 8 3 1 no replication\n", "", 1);
-    assert!(rt; holds(rt.alloc(), &no)?);
+    Ok(())
+}
+
+#[test]
+fn criteria_refuse_questions(rt: HostRuntime) -> Result<(), Fail> {
+    for (words, output) in [
+        ("ask bibd 5 3 1", "bibd 5 3 1 no count\n"),
+        ("ask bibd 16 6 1", "bibd 16 6 1 no fisher\n"),
+        ("ask bibd 36 15 1", "bibd 36 15 1 no replication\n"),
+        ("build bibd 21 6 1", "bibd 21 6 1 no fisher\n"),
+        ("build bibd 8 3 1", "bibd 8 3 1 no replication\n"),
+        ("ask gdd 4 2 4", "gdd 4 2 4 no groups\n"),
+        ("build gdd 4 3 2", "gdd 4 3 2 no fewgroups\n"),
+        ("ask td 66 64", "td 66 64 no groups\n"),
+        (
+            "explain bibd 16 6 1",
+            "bibd 16 6 1 no fisher\nbecause 3 6\n",
+        ),
+        (
+            "explain bibd 8 3 1",
+            "bibd 8 3 1 no replication\nbecause 7 2\n",
+        ),
+        (
+            "explain df z 12 3 1",
+            "df z 12 3 1 no differences\nbecause 11 6\n",
+        ),
+        ("explain gdd 4 3 2", "gdd 4 3 2 no fewgroups\nbecause 2 4\n"),
+        ("explain pbd 7 5", "pbd 7 5 no points\nbecause 6 5\n"),
+    ] {
+        let right = holds(rt.alloc(), &told(words, "", output, "", 1))?;
+        assert!(rt; right, "at {words}");
+    }
     Ok(())
 }
 

@@ -12,7 +12,7 @@ mod texts;
 mod words;
 
 pub use block_lines::{BlockLineEnd, push_block_line};
-pub use command::{Command, Reason, Shape, Verb};
+pub use command::{Asked, Command, Reason, Shape, Verb};
 pub use commands::{read_line, read_words};
 pub use line::{LINE_ROOM, Text, TextLine};
 pub use names::criterion_name;
