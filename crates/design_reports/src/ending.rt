@@ -8,7 +8,7 @@ use crate::status::Status;
 use design_base::Verdict;
 use design_checks::Finding;
 use design_io::ReadEnd;
-use design_lines::{TextLine, Reason, counted_line};
+use design_lines::{Reason, TextLine, counted_line};
 
 /// How an answer ends.
 #[derive(Clone, Copy, Debug, PartialEq, Eq)]
