@@ -5,8 +5,6 @@ pub mod Passages
 pub mod Squares
 pub mod Shapes
 pub mod Bounds
-pub mod Table
 pub mod TdRows
-pub mod RowBlocks
 pub mod Steps
 pub mod Samples

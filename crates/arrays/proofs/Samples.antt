@@ -36,24 +36,24 @@ four_rows_array = record {
       (at 3 (λ j. all_below j (λ i. all_below 2 (λ a. all_below 2 (λ b. agree four_rows i j a b == 1)))) j refl m) l) p) q);
 }
 
-abbrev six_lines : List (List ℕ)
-six_lines = (0 ∷ 1 ∷ 2 ∷ []) ∷ (1 ∷ 2 ∷ 0 ∷ []) ∷ (2 ∷ 0 ∷ 1 ∷ []) ∷ (0 ∷ 1 ∷ 2 ∷ []) ∷ (2 ∷ 0 ∷ 1 ∷ []) ∷ (1 ∷ 2 ∷ 0 ∷ []) ∷ []
+abbrev six_rows : List (List ℕ)
+six_rows = (0 ∷ 1 ∷ 2 ∷ []) ∷ (1 ∷ 2 ∷ 0 ∷ []) ∷ (2 ∷ 0 ∷ 1 ∷ []) ∷ (0 ∷ 1 ∷ 2 ∷ []) ∷ (2 ∷ 0 ∷ 1 ∷ []) ∷ (1 ∷ 2 ∷ 0 ∷ []) ∷ []
 
-abbrev in_line : ℕ → ℕ → ℕ → Bool
-in_line s x a = sum_below 3 (λ y. one (cell six_lines 3 s x y == a)) == 1
+abbrev in_row : ℕ → ℕ → ℕ → Bool
+in_row s x a = sum_below 3 (λ y. one (cell six_rows 3 s x y == a)) == 1
 
 abbrev in_column : ℕ → ℕ → ℕ → Bool
-in_column s y a = sum_below 3 (λ x. one (cell six_lines 3 s x y == a)) == 1
+in_column s y a = sum_below 3 (λ x. one (cell six_rows 3 s x y == a)) == 1
 
 abbrev at_cell : ℕ → ℕ → ℕ → ℕ → Bool
-at_cell s t a b = sum_below 3 (λ x. sum_below 3 (λ y. one ((cell six_lines 3 s x y == a) && (cell six_lines 3 t x y == b)))) == 1
+at_cell s t a b = sum_below 3 (λ x. sum_below 3 (λ y. one ((cell six_rows 3 s x y == a) && (cell six_rows 3 t x y == b)))) == 1
 
-pub six_lines_mols : IsMols ((0 ∷ 1 ∷ 2 ∷ []) ∷ (1 ∷ 2 ∷ 0 ∷ []) ∷ (2 ∷ 0 ∷ 1 ∷ []) ∷ (0 ∷ 1 ∷ 2 ∷ []) ∷ (2 ∷ 0 ∷ 1 ∷ []) ∷ (1 ∷ 2 ∷ 0 ∷ []) ∷ []) 3 2
+pub six_rows_mols : IsMols ((0 ∷ 1 ∷ 2 ∷ []) ∷ (1 ∷ 2 ∷ 0 ∷ []) ∷ (2 ∷ 0 ∷ 1 ∷ []) ∷ (0 ∷ 1 ∷ 2 ∷ []) ∷ (2 ∷ 0 ∷ 1 ∷ []) ∷ (1 ∷ 2 ∷ 0 ∷ []) ∷ []) 3 2
 unfolding sum_below one
-six_lines_mols = record {
+six_rows_mols = record {
   count = refl;
-  rows = All-from_recursion (IsRow 3 3) six_lines (three 3 0 1 2 (lit< tt) (lit< tt) (lit< tt), (three 3 1 2 0 (lit< tt) (lit< tt) (lit< tt), (three 3 2 0 1 (lit< tt) (lit< tt) (lit< tt), (three 3 0 1 2 (lit< tt) (lit< tt) (lit< tt), (three 3 2 0 1 (lit< tt) (lit< tt) (lit< tt), (three 3 1 2 0 (lit< tt) (lit< tt) (lit< tt), tt))))));
-  in_rows = λ s x a l m h. eqb-true _ 1 (at 3 (in_line s x) a (at 3 (λ x. all_below 3 (in_line s x)) x (at 2 (λ s. all_below 3 (λ x. all_below 3 (in_line s x))) s refl l) m) h);
+  rows = All-from_recursion (IsRow 3 3) six_rows (three 3 0 1 2 (lit< tt) (lit< tt) (lit< tt), (three 3 1 2 0 (lit< tt) (lit< tt) (lit< tt), (three 3 2 0 1 (lit< tt) (lit< tt) (lit< tt), (three 3 0 1 2 (lit< tt) (lit< tt) (lit< tt), (three 3 2 0 1 (lit< tt) (lit< tt) (lit< tt), (three 3 1 2 0 (lit< tt) (lit< tt) (lit< tt), tt))))));
+  in_rows = λ s x a l m h. eqb-true _ 1 (at 3 (in_row s x) a (at 3 (λ x. all_below 3 (in_row s x)) x (at 2 (λ s. all_below 3 (λ x. all_below 3 (in_row s x))) s refl l) m) h);
   in_columns = λ s y a l m h. eqb-true _ 1 (at 3 (in_column s y) a (at 3 (λ y. all_below 3 (in_column s y)) y (at 2 (λ s. all_below 3 (λ y. all_below 3 (in_column s y))) s refl l) m) h);
   orthogonal = λ s t a b l m h g. eqb-true _ 1 (at 3 (at_cell s t a) b (at 3 (λ a. all_below 3 (at_cell s t a)) a (at t (λ s. all_below 3 (λ a. all_below 3 (at_cell s t a))) s (at 2 (λ t. all_below t (λ s. all_below 3 (λ a. all_below 3 (at_cell s t a)))) t refl m) l) h) g);
 }

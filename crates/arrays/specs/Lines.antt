@@ -1,4 +1,4 @@
--- Lines that are no rows of an array, and no lines of squares. Lines are counted from 1.
+-- Lines of an input that are no rows of an array or of squares. Lines are counted from 1.
 use Rattle.std.specs.Prelude.{ℕ, ◌+◌, ◌*◌, ◌==◌, ◌&&◌, ◌≡◌, Bool, not, nat_lt, min, List, length, take, Option, Some, None, option_map, position, if◌then◌else◌, ⊤}
 use Rattle.std.specs.List.{list_all}
 use Rattle.std.specs.Option.{option_or}

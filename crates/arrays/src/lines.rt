@@ -1,4 +1,4 @@
-// Lines that are no rows of an array, and no lines of squares.
+// Lines of an input that are no rows of an array or of squares.
 ghost use Rattle.std.specs.Prelude.{◌≡◌, ◌+◌, ◌<◌, ◌^◌, nat_lt, take};
 ghost use Rattle.std.specs.List.{list_all};
 ghost use Rattle.arrays.specs.Lines.{bad_count as bad_count_of, bad_line as bad_line_of, bad_row as bad_row_of, is_row as is_row_of};

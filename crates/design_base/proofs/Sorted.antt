@@ -45,6 +45,10 @@ lex_from_cmp [] b e = refl
 lex_from_cmp (x ∷ a) [] e = absurd (false≢true (sym e))
 lex_from_cmp (x ∷ a) (y ∷ b) e = let h = lex_from_cmp a b in grind (arith, nat_tests)
 
-pub canonical_from_sort : (B C : List (List ℕ)) → IsPermutation (map (sort_by nat_le) B) C → IsSorted (slice_cmp nat_cmp) C → C ≡ canonical B
-canonical_from_sort B C p s = canonical_is B C p (ordered_from_neighbours lex_le lex_le-order C
+pub sorted_from_sort : (B C : List (List ℕ)) → IsPermutation B C → IsSorted (slice_cmp nat_cmp) C → C ≡ sort_by lex_le B
+sorted_from_sort B C p s = sort_by_is lex_le lex_le-order B C p (ordered_from_neighbours lex_le lex_le-order C
     (λ k d l. lex_from_cmp (get_or C k d) (get_or C (suc k) d) (subst (λ n. is_lt (slice_cmp nat_cmp (get_or C n d) (get_or C k d)) ≡ false) (next k) (s k d (omega arith) (omega arith)))))
+
+pub canonical_from_sort : (B C : List (List ℕ)) → IsPermutation (map (sort_by nat_le) B) C → IsSorted (slice_cmp nat_cmp) C → C ≡ canonical B
+unfolding canonical
+canonical_from_sort B C p s = sorted_from_sort (map (sort_by nat_le) B) C p s

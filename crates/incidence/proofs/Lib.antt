@@ -2,5 +2,6 @@ pub mod Fronts
 pub mod Ordered
 pub mod Packing
 pub mod Pieces
+pub mod RowsAndBlocks
 pub mod Sizes
 pub mod Walk

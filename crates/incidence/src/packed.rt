@@ -2,7 +2,7 @@
 ghost use Rattle.std.specs.Prelude.{◌≡◌, ◌+◌, ◌<◌, ◌≤◌, ◌↔◌, [], ◌∷◌, ◌++◌, ◌&&◌, IfOk, IsTrue, OnErr, OnOk, Some, length, map, nat_le, slice_get, slice_index, take};
 ghost use Rattle.counting.specs.Sorting.{sort_by};
 ghost use Rattle.design_base.specs.Blocks.{cover as cover_of, holds};
-ghost use Rattle.design_base.specs.Canonical.{canonical as canonical_form};
+ghost use Rattle.design_base.specs.Canonical.{canonical as canonical_form, lex_le};
 ghost use Rattle.incidence.specs.Packed.{AreEnds, rows_from, size_of};
 
 use crate::iter::Iter;
@@ -86,7 +86,8 @@ impl Rows {
         }
     }
 
-    /// Takes memory at once for so many further rows and the numbers in them. The list stays.
+    /// Takes memory at once for so many further rows and the numbers in them. The list stays, after `Memory` too, which comes
+    /// only for want of memory.
     pub fn reserve(&mut self, rows: usize, numbers: usize) -> Result<(), Memory>
         ensures { self.new ≡ self.old }
     {
@@ -111,7 +112,7 @@ impl Rows {
         self.len() == 0
     }
 
-    /// The row at place `i`, from 0.
+    /// The row at place `i`, from 0. There is one.
     #[tactic(auto, using(crate::proofs::Packing::packed_lengths))]
     pub fn row(&self, i: usize) -> &[u16]
         requires { i < length self.now }
@@ -120,7 +121,9 @@ impl Rows {
         row_of(&self.numbers, &self.ends, i)
     }
 
-    /// Appends a row, which may be empty. After `Memory` the list is as before.
+    /// Appends a row, which may be empty: any numbers, in any order. The rows and numbers of the list, the new row and its
+    /// numbers are together fewer than `PACKED_MAX`. After `Memory`, which comes only for want of memory, the list is as
+    /// before.
     #[tactic(auto, using(crate::proofs::Packing::size_of_rows, crate::proofs::Packing::rows_from_push, crate::proofs::Packing::AreEnds_push))]
     pub fn push_row(&mut self, row: &[u16]) -> Result<(), Memory>
         requires { size_of self.old + length row.now + 1 < PACKED_MAX }
@@ -154,14 +157,24 @@ impl Rows {
         sort_pieces(&mut self.numbers, &self.ends);
     }
 
-    /// Each row in increasing order, and the rows in lexicographic order; what is there twice stays there twice. After `Memory` the rows are given up.
-    #[tactic(auto, using(crate::proofs::Sizes::size_of_permuted, crate::proofs::Packing::size_of_rows, design_base::proofs::Sorted::canonical_from_sort))]
+    /// The rows in lexicographic order; what is there twice stays there twice. After `Memory`, which comes only for want of
+    /// memory, the rows are given up.
+    #[tactic(auto, using(crate::proofs::Sizes::size_of_permuted, crate::proofs::Packing::size_of_rows, design_base::proofs::Sorted::sorted_from_sort))]
+    pub fn in_order(self) -> Result<Rows, Memory>
+        ensures { IfOk result (λ rows. rows ≡ sort_by lex_le self) }
+    {
+        let order = in_lexicographic_order(self.alloc, &self)?;
+        pack(self.alloc, &order, self.numbers.len())
+    }
+
+    /// Each row in increasing order, and the rows in lexicographic order: the canonical form of a block list. What is there
+    /// twice stays there twice. After `Memory`, which comes only for want of memory, the rows are given up.
+    #[tactic(auto, unfolding(design_base::specs::Canonical::canonical))]
     pub fn canonical(mut self) -> Result<Rows, Memory>
         ensures { IfOk result (λ rows. rows ≡ canonical_form self) }
     {
         self.sort_each();
-        let order = in_lexicographic_order(self.alloc, &self)?;
-        pack(self.alloc, &order, self.numbers.len())
+        self.in_order()
     }
 
     /// The rows in their order.

@@ -69,3 +69,12 @@ fn pairs_are_covered(rt: HostRuntime) -> Result<(), Fail> {
     }
     Ok(())
 }
+
+#[test]
+fn rows_are_put_in_order(rt: HostRuntime) -> Result<(), Fail> {
+    let list: [&[u16]; 5] = [&[5, 1, 3], &[2, 0], &[], &[2, 0, 7], &[2, 0]];
+    let rows = pack(rt.alloc(), &list, 10)?;
+    let rows = rows.in_order()?;
+    assert!(rt; are(&rows, &[&[], &[2, 0], &[2, 0], &[2, 0, 7], &[5, 1, 3]]));
+    Ok(())
+}

@@ -14,8 +14,8 @@ sum_entry n x y zero = x
 sum_entry n x y (suc zero) = y
 sum_entry n x y (suc (suc j)) = (x + y) % n
 
-turned : (n x y : ℕ) → (x + y) % n ≡ (y + x) % n
-turned n x y = ap (λ s. s % n) (omega arith)
+swapped : (n x y : ℕ) → (x + y) % n ≡ (y + x) % n
+swapped n x y = ap (λ s. s % n) (omega arith)
 
 solvable : (n : ℕ) → 0 < n → IsSolvable 3 n (sum_entry n)
 unfolding sum_entry
@@ -29,7 +29,7 @@ solvable n pos = record { small = small; solves = solves; unique = unique }
     solves : (i j a b : ℕ) → i < j → j < 3 → a < n → b < n → (x : ℕ) × (y : ℕ) × (x < n) × (y < n) × (sum_entry n x y i ≡ a) × (sum_entry n x y j ≡ b)
     solves zero (suc zero) a b l h la lb = (a, b, la, lb, refl, refl)
     solves zero (suc (suc j)) a b l h la lb = let y = add_solves n a b la lb in (a, y.0, la, y.1, refl, y.2)
-    solves (suc zero) (suc (suc j)) a b l h la lb = let x = add_solves n a b la lb in (x.0, a, x.1, la, refl, turned n x.0 a ∙ x.2)
+    solves (suc zero) (suc (suc j)) a b l h la lb = let x = add_solves n a b la lb in (x.0, a, x.1, la, refl, swapped n x.0 a ∙ x.2)
     solves (suc (suc i)) (suc (suc j)) a b l h la lb = absurd (omega arith)
     solves (suc i) (suc zero) a b l h la lb = absurd (omega arith)
     solves i zero a b l h la lb = absurd (omega arith)
@@ -37,7 +37,7 @@ solvable n pos = record { small = small; solves = solves; unique = unique }
     unique : (i j x y z w : ℕ) → i < j → j < 3 → x < n → y < n → z < n → w < n → sum_entry n x y i ≡ sum_entry n z w i → sum_entry n x y j ≡ sum_entry n z w j → (x ≡ z) × (y ≡ w)
     unique zero (suc zero) x y z w l h lx ly lz lw e f = (e, f)
     unique zero (suc (suc j)) x y z w l h lx ly lz lw e f = (e, add_cancels n x y w ly lw (f ∙ ap (λ k. (k + w) % n) (sym e)))
-    unique (suc zero) (suc (suc j)) x y z w l h lx ly lz lw e f = (add_cancels n y x z lx lz (turned n y x ∙ f ∙ turned n z w ∙ ap (λ k. (k + z) % n) (sym e)), e)
+    unique (suc zero) (suc (suc j)) x y z w l h lx ly lz lw e f = (add_cancels n y x z lx lz (swapped n y x ∙ f ∙ swapped n z w ∙ ap (λ k. (k + z) % n) (sym e)), e)
     unique (suc (suc i)) (suc (suc j)) x y z w l h lx ly lz lw e f = absurd (omega arith)
     unique (suc i) (suc zero) x y z w l h lx ly lz lw e f = absurd (omega arith)
     unique i zero x y z w l h lx ly lz lw e f = absurd (omega arith)

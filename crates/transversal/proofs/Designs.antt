@@ -1,17 +1,15 @@
 -- What the builders give are transversal designs.
-use Rattle.std.proofs.Common.{List, ap₂, arith, length, map, subst, sym, true, ℕ, ◌%◌, ◌*◌, ◌+◌, ◌<◌, ◌∙◌, ◌≡◌, ◌≤◌}
-use Rattle.std.proofs.lemmas.List.{length-map}
-use Rattle.std.proofs.lemmas.List.Elements.{All-weaker}
+use Rattle.std.proofs.Common.{List, arith, length, subst, sym, ℕ, ◌*◌, ◌+◌, ◌<◌, ◌≡◌, ◌≤◌}
 use Rattle.std.proofs.lemmas.Nat.{mul-le}
 use Rattle.design_base.proofs.Canonical.{design_from_loose}
 use Rattle.design_base.proofs.Groups.{oa_from_td}
 use Rattle.design_base.proofs.Rows.{td_from_oa}
 use Rattle.design_base.specs.Arrays.{IsOa, blocks_of_rows, rows_of_blocks}
-use Rattle.design_base.specs.Blocks.{IsBlock, IsTd, across}
+use Rattle.design_base.specs.Blocks.{IsTd, across}
 use Rattle.design_base.specs.Canonical.{canonical}
 use Rattle.design_base.specs.Fields.{field_product, field_sum}
 use Rattle.design_base.specs.Rings.{IsField}
-use Rattle.design_base.specs.declared.limits.TheConstants.{TD_N_MAX}
+use Rattle.design_base.specs.declared.limits.TheConstants.{PACKED_MAX, TD_K_MAX, TD_N_MAX}
 use Rattle.field_tables.proofs.Listed.{listed_field}
 use Rattle.transversal.proofs.CyclicArray.{cyclic_is_oa}
 use Rattle.transversal.proofs.OneArray.{one_is_oa}
@@ -19,20 +17,11 @@ use Rattle.transversal.proofs.ParkerArray.{parker_is_oa}
 use Rattle.transversal.proofs.FieldArray.{field_is_oa}
 use Rattle.transversal.proofs.ProductArray.{product_is_oa}
 use Rattle.transversal.specs.Conditions.{CanBuildCyclic, CanBuildField, CanBuildOne, CanMultiply, CanUseParker}
-use Rattle.transversal.specs.Constructions.{AllOfSize, cyclic_blocks, cyclic_rows, field_blocks, field_rows, one_blocks, one_rows, parker_blocks, parker_rows, product_blocks, product_rows}
+use Rattle.transversal.specs.Constructions.{cyclic_blocks, cyclic_rows, field_blocks, field_rows, one_blocks, one_rows, parker_blocks, parker_rows, product_blocks, product_rows}
 
 -- the blocks of an array
 pub td_of_oa : (k n : ℕ) (R : List (List ℕ)) → 0 < n → IsOa R k n → IsTd (canonical (blocks_of_rows k n R)) k n
 td_of_oa k n R pos oa = design_from_loose (n * k) (λ s. s ≡ k) (blocks_of_rows k n R) (across n) (td_from_oa k n R pos oa)
-
--- an ingredient's blocks
-module _ (k n : ℕ) (B : List (List ℕ)) (td : IsTd B k n) where
-  pub sizes_of_td : AllOfSize k B
-  sizes_of_td = All-weaker (IsBlock (n * k) (λ size. size ≡ k)) (λ block. length block ≡ k) (λ block s. s.size) B td.blocks
-
-  pub length_of_td : 2 ≤ k → 1 ≤ n → length B ≡ n * n
-  unfolding rows_of_blocks
-  length_of_td two some = let oa : IsOa (rows_of_blocks n B) k n = oa_from_td k n B (omega arith) td two in sym (length-map B (map (λ x. x % n))) ∙ oa.count
 
 -- ---- the stated lists, wherever the construction has what it needs
 pub one_design : (k : ℕ) → CanBuildOne k → IsTd (canonical (one_blocks k)) k 1
@@ -57,16 +46,12 @@ pub parker_design : (m : ℕ) (A : List (List ℕ)) → CanUseParker m A → IsT
 parker_design m A can =
     td_of_oa 4 (3 * m + 1) (parker_rows m (rows_of_blocks m A)) (omega arith) (parker_is_oa m (rows_of_blocks m A) (oa_from_td 4 m A can.one_point can.inner (omega arith)))
 
--- ---- how many blocks the ingredients have at most
-pub product_room : (k a b : ℕ) (A B : List (List ℕ)) → CanMultiply k a b A B → length A * length B ≤ TD_N_MAX * TD_N_MAX
-product_room k a b A B can =
-    subst (λ rows. rows ≤ TD_N_MAX * TD_N_MAX) (sym (ap₂ (λ m n. m * n) (length_of_td k a A can.first can.two_groups can.first_points) (length_of_td k b B can.second can.two_groups can.second_points) ∙ square))
-    (mul-le (a * b) (a * b) TD_N_MAX TD_N_MAX can.points can.points)
-  where
-    square : a * a * (b * b) ≡ a * b * (a * b)
-    square = omega arith
+-- ---- how much room arrays take
+pub few_rows : (k n : ℕ) (R : List (List ℕ)) → n ≤ TD_N_MAX → IsOa R k n → length R ≤ TD_N_MAX * TD_N_MAX
+few_rows k n R most oa = subst (λ rows. rows ≤ TD_N_MAX * TD_N_MAX) (sym oa.count) (mul-le n n TD_N_MAX TD_N_MAX most most)
 
-pub parker_room : (m : ℕ) (A : List (List ℕ)) → CanUseParker m A → length A ≤ TD_N_MAX * TD_N_MAX
-parker_room m A can =
-    let most : m ≤ TD_N_MAX = omega (arith, can.points) in
-    subst (λ rows. rows ≤ TD_N_MAX * TD_N_MAX) (sym (length_of_td 4 m A can.inner (omega arith) can.one_point)) (mul-le m m TD_N_MAX TD_N_MAX most most)
+pub rows_fit : (k n : ℕ) (R : List (List ℕ)) → k ≤ TD_K_MAX → n ≤ TD_N_MAX → IsOa R k n → (k + 1) * length R < PACKED_MAX
+rows_fit k n R few most oa = omega (arith, mul-le (k + 1) (length R) (TD_K_MAX + 1) (TD_N_MAX * TD_N_MAX) (omega arith) (few_rows k n R most oa))
+
+pub product_fits : (k a b : ℕ) (R S : List (List ℕ)) → k ≤ TD_K_MAX → 1 ≤ b → a * b ≤ TD_N_MAX → IsOa R k a → IsOa S k b → (k + 1) * length (product_rows k b R S) < PACKED_MAX
+product_fits k a b R S few some most first second = rows_fit k (a * b) (product_rows k b R S) few most (product_is_oa k a b R S first second some)

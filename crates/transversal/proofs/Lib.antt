@@ -2,7 +2,7 @@ pub mod Square
 pub mod CyclicArray
 pub mod FieldArray
 pub mod ProductArray
-pub mod Turns
+pub mod Translates
 pub mod Raise
 pub mod ParkerArray
 pub mod Designs

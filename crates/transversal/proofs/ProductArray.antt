@@ -1,9 +1,8 @@
 -- Products of orthogonal arrays.
-use Rattle.std.proofs.Common.{List, ap, ap₂, arith, get_or, length, map, subst, sym, take, ℕ, ◌%◌, ◌&&◌, ◌*◌, ◌+◌, ◌/◌, ◌<◌, ◌==◌, ◌∙◌, ◌≡◌, ◌≤◌}
+use Rattle.std.proofs.Common.{List, ap, ap₂, arith, get_or, map, subst, sym, take, ℕ, ◌%◌, ◌&&◌, ◌*◌, ◌+◌, ◌/◌, ◌<◌, ◌==◌, ◌∙◌, ◌≡◌, ◌≤◌}
 use Rattle.std.proofs.Math.Nat.{mod-lt}
 use Rattle.std.proofs.lemmas.List.{length-map}
 use Rattle.std.proofs.lemmas.List.Concat.{length-flat_map}
-use Rattle.std.proofs.lemmas.List.Elements.{All-map}
 use Rattle.std.proofs.lemmas.Nat.{div_below, mul-add-lt}
 use Rattle.std.specs.Prelude.{All}
 use Rattle.counting.proofs.Counts.{and_swap}
@@ -13,7 +12,7 @@ use Rattle.counting.specs.Sums.{one}
 use Rattle.design_base.proofs.Places.{place_test}
 use Rattle.design_base.specs.Arrays.{IsOa, IsRow, agree}
 use Rattle.transversal.proofs.Square.{row_of_entries}
-use Rattle.transversal.specs.Constructions.{product_row, product_rows, products_of, row_of_block}
+use Rattle.transversal.specs.Constructions.{product_row, product_rows, products_of}
 
 module _ (k b : ℕ) (r s : List ℕ) where
   entry : (j : ℕ) → j < k → get_or (product_row k b r s) j 0 ≡ get_or r j 0 * b + get_or s j 0
@@ -56,18 +55,9 @@ module _ (k a b : ℕ) (R S : List (List ℕ)) (first : IsOa R k a) (second : Is
       test : ℕ → ℕ → ℕ → ℕ → List ℕ → ℕ
       test i j p q r = one ((get_or r i 0 == p) && (get_or r j 0 == q))
 
--- the row of a block
-pub row_of_block_is : (k n : ℕ) (block : List ℕ) → 0 < n → length block ≡ k → IsRow k n (row_of_block n block)
-unfolding row_of_block
-row_of_block_is k n block pos size = record {
-  size = length-map block (λ x. x % n) ∙ size;
-  below = All-map (λ a. a < n) (λ x. x % n) block (λ i d h. mod-lt _ pos);
-}
-
--- the first k entries of a buffer, where they are those of the product of two blocks' rows
-pub row_from_front : (k a b : ℕ) (first second row : List ℕ) (j : ℕ) → 1 ≤ a → 1 ≤ b → length first ≡ k → length second ≡ k → j ≤ k → k ≤ j →
-    take j row ≡ product_row j b (row_of_block a first) (row_of_block b second) → IsRow k (a * b) (take k row)
-row_from_front k a b first second row j la lb p q low high entries =
+-- the first k entries of a buffer, where they are those of a product
+pub row_from_front : (k a b : ℕ) (r s row : List ℕ) (j : ℕ) → IsRow k a r → IsRow k b s → j ≤ k → k ≤ j → take j row ≡ product_row j b r s → IsRow k (a * b) (take k row)
+row_from_front k a b r s row j u v low high entries =
     let done : j ≡ k = omega arith in
-    let is : take k row ≡ product_row k b (row_of_block a first) (row_of_block b second) = subst (λ j. take j row ≡ product_row j b (row_of_block a first) (row_of_block b second)) done entries in
-    subst (IsRow k (a * b)) (sym is) (row_of_product k b (row_of_block a first) (row_of_block b second) a (row_of_block_is k a first (omega arith) p) (row_of_block_is k b second (omega arith) q))
+    let is : take k row ≡ product_row k b r s = subst (λ j. take j row ≡ product_row j b r s) done entries in
+    subst (IsRow k (a * b)) (sym is) (row_of_product k b r s a u v)

@@ -6,7 +6,7 @@ use Rattle.counting.specs.Sums.{join_below}
 use Rattle.design_base.specs.Arrays.{blocks_of_rows, place, row_block, rows_of_blocks}
 use Rattle.design_base.specs.Canonical.{canonical, lex_le}
 use Rattle.design_base.specs.Fields.{field_product, field_sum, shape_of, shapes}
-use Rattle.transversal.specs.Constructions.{base_rows, cyclic_blocks, cyclic_row, cyclic_rows, field_blocks, field_row, field_rows, one_blocks, one_rows, parker_blocks, parker_rows, product_blocks, product_row, product_rows, products_of, quadruple, raised, rows_below, turn, turned, turned_below}
+use Rattle.transversal.specs.Constructions.{base_rows, cyclic_blocks, cyclic_row, cyclic_rows, field_blocks, field_row, field_rows, one_blocks, one_rows, parker_blocks, parker_rows, product_blocks, product_row, product_rows, products_of, quadruple, raised, rows_below, translated, translate, translates_below}
 
 one_block : canonical (one_blocks 3) ≡ (0 ∷ 1 ∷ 2 ∷ []) ∷ []
 unfolding canonical sort_by insert_by lex_le blocks_of_rows row_block place join_below one_rows
@@ -41,5 +41,5 @@ unfolding canonical sort_by insert_by lex_le blocks_of_rows rows_of_blocks row_b
 two_by_two = refl
 
 parker_of_one : canonical (parker_blocks 1 ((0 ∷ 1 ∷ 2 ∷ 3 ∷ []) ∷ [])) ≡ (0 ∷ 4 ∷ 8 ∷ 12 ∷ []) ∷ (0 ∷ 5 ∷ 10 ∷ 15 ∷ []) ∷ (0 ∷ 6 ∷ 11 ∷ 13 ∷ []) ∷ (0 ∷ 7 ∷ 9 ∷ 14 ∷ []) ∷ (1 ∷ 4 ∷ 11 ∷ 14 ∷ []) ∷ (1 ∷ 5 ∷ 9 ∷ 13 ∷ []) ∷ (1 ∷ 6 ∷ 8 ∷ 15 ∷ []) ∷ (1 ∷ 7 ∷ 10 ∷ 12 ∷ []) ∷ (2 ∷ 4 ∷ 9 ∷ 15 ∷ []) ∷ (2 ∷ 5 ∷ 11 ∷ 12 ∷ []) ∷ (2 ∷ 6 ∷ 10 ∷ 14 ∷ []) ∷ (2 ∷ 7 ∷ 8 ∷ 13 ∷ []) ∷ (3 ∷ 4 ∷ 10 ∷ 13 ∷ []) ∷ (3 ∷ 5 ∷ 8 ∷ 14 ∷ []) ∷ (3 ∷ 6 ∷ 9 ∷ 12 ∷ []) ∷ (3 ∷ 7 ∷ 11 ∷ 15 ∷ []) ∷ []
-unfolding canonical sort_by insert_by lex_le blocks_of_rows rows_of_blocks row_block place join_below parker_rows turned_below turned turn raised base_rows quadruple
+unfolding canonical sort_by insert_by lex_le blocks_of_rows rows_of_blocks row_block place join_below parker_rows translates_below translate translated raised base_rows quadruple
 parker_of_one = refl

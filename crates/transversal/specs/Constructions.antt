@@ -1,6 +1,6 @@
 -- Transversal designs by construction, as in the Handbook of Combinatorial Designs (Colbourn, Dinitz): their rows, and the
 -- blocks that the rows stand for.
-use Rattle.std.specs.Prelude.{ℕ, ◌+◌, ◌-◌, ◌*◌, ◌%◌, nat_lt, List, [], ◌∷◌, ◌++◌, map, flat_map, take, slice_index, if◌then◌else◌, ◌≡◌, All, length}
+use Rattle.std.specs.Prelude.{ℕ, ◌+◌, ◌-◌, ◌*◌, ◌%◌, nat_lt, List, [], ◌∷◌, ◌++◌, map, flat_map, take, slice_index, if◌then◌else◌}
 use Rattle.counting.specs.Sums.{join_below, list_below}
 use Rattle.design_base.specs.Arrays.{blocks_of_rows, rows_of_blocks}
 use Rattle.design_base.specs.Fields.{field_sum, field_product}
@@ -36,14 +36,6 @@ field_rows k q = rows_below q q (field_row k q)
 abbrev pub field_blocks : ℕ → ℕ → List (List ℕ)
 field_blocks k q = blocks_of_rows k q (field_rows k q)
 
--- each block of B has k points
-abbrev pub AllOfSize : ℕ → List (List ℕ) → Type 0
-AllOfSize k B = All (λ block. length block ≡ k) B
-
--- the row of a block that holds one point of each group, in the order of the groups
-unfoldable pub row_of_block : ℕ → List ℕ → List ℕ
-row_of_block n block = map (λ x. x % n) block
-
 -- the product of two rows: the entries r_j * b + s_j
 unfoldable pub product_row : ℕ → ℕ → List ℕ → List ℕ → List ℕ
 product_row k b r s = list_below k (λ j. slice_index r j * b + slice_index s j)
@@ -78,23 +70,24 @@ quadruple m i =
 unfoldable pub base_rows : ℕ → ℕ → List (List ℕ)
 base_rows m h = (0 ∷ 0 ∷ 0 ∷ 0 ∷ []) ∷ join_below h (λ i. quadruple m (i + 1))
 
--- x plus c modulo n, where x is below n; other symbols stay
-unfoldable pub turn : ℕ → ℕ → ℕ → ℕ
-turn n c x = if nat_lt x n then (x + c) % n else x
+-- the translate of a symbol: x plus c modulo n, where x is below n; other symbols stay
+unfoldable pub translated : ℕ → ℕ → ℕ → ℕ
+translated n c x = if nat_lt x n then (x + c) % n else x
 
-unfoldable pub turned : ℕ → ℕ → List (List ℕ) → List (List ℕ)
-turned n c R = map (map (turn n c)) R
+-- the translate of rows by c
+unfoldable pub translate : ℕ → ℕ → List (List ℕ) → List (List ℕ)
+translate n c R = map (map (translated n c)) R
 
--- the rows of R turned by each c below h
-unfoldable pub turned_below : ℕ → ℕ → List (List ℕ) → List (List ℕ)
-turned_below n h R = join_below h (λ c. turned n c R)
+-- the translates of R by each c below h
+unfoldable pub translates_below : ℕ → ℕ → List (List ℕ) → List (List ℕ)
+translates_below n h R = join_below h (λ c. translate n c R)
 
 -- c added to each symbol
 unfoldable pub raised : ℕ → List (List ℕ) → List (List ℕ)
 raised c R = map (map (λ x. c + x)) R
 
 unfoldable pub parker_rows : ℕ → List (List ℕ) → List (List ℕ)
-parker_rows m R = turned_below (2 * m + 1) (2 * m + 1) (base_rows m m) ++ raised (2 * m + 1) R
+parker_rows m R = translates_below (2 * m + 1) (2 * m + 1) (base_rows m m) ++ raised (2 * m + 1) R
 
 abbrev pub parker_blocks : ℕ → List (List ℕ) → List (List ℕ)
 parker_blocks m inner = blocks_of_rows 4 (3 * m + 1) (parker_rows m (rows_of_blocks m inner))

@@ -1,11 +1,11 @@
-// Rows of symbols, and the blocks that they stand for.
-ghost use Rattle.std.specs.Prelude.{◌≡◌, ◌+◌, ◌<◌, ◌≤◌, ◌++◌, [], ◌∷◌, length, slice_index, IfOk, OnOk};
+// Lists of blocks that grow.
+ghost use Rattle.std.specs.Prelude.{◌≡◌, ◌+◌, ◌*◌, ◌<◌, ◌≤◌, ◌++◌, [], ◌∷◌, All, IfOk, OnOk, length};
 ghost use Rattle.design_base.specs.Arrays.{IsRow, blocks_of_rows};
 ghost use Rattle.incidence.specs.Packed.{size_of};
-ghost use Rattle.transversal.specs.Constructions.{row_of_block};
+ghost use Rattle.transversal.specs.Constructions.{raised};
 
 use design_base::{Memory, PACKED_MAX, TD_K_MAX, TD_N_MAX};
-use incidence::Rows;
+use incidence::{Rows, push_block};
 use std::alloc::Global;
 
 /// An empty list with room for the `n * n` blocks of a transversal design with `k` groups of `n` points.
@@ -22,34 +22,52 @@ pub fn with_room(alloc: Global, k: u16, n: u16) -> Result<Rows, Memory>
     Ok(rows)
 }
 
-/// Appends the block of a row of `k` symbols below `n`: its entry in column `j` is a point of group `j`.
-///
-/// `k` is at most `TD_K_MAX` and `n` at most `TD_N_MAX`. After `Memory` the list is as before.
-#[tactic(auto, using(crate::proofs::Steps::row_block_none, crate::proofs::Steps::row_block_next, crate::proofs::Steps::blocks_of_row))]
-pub fn push_block(rows: &mut Rows, k: u16, n: u16, row: &[u16]) -> Result<(), Memory>
-    requires row { IsRow k n row.now }
+// Appends the block of a row of `k` symbols below `h`, with `c` added to each.
+#[tactic(auto, using(crate::proofs::Steps::raised_row_none))]
+fn push_raised_row(
+    rows: &mut Rows,
+    k: u16,
+    n: u16,
+    c: u16,
+    h: u16,
+    row: &[u16],
+) -> Result<(), Memory>
     requires groups { k ≤ TD_K_MAX }
     requires points { n ≤ TD_N_MAX }
+    requires raised_points { c + h ≤ n }
+    requires row { IsRow k h row.now }
     requires room { size_of rows.old + k + 1 < PACKED_MAX }
-    ensures ok { OnOk result (rows.new ≡ rows.old ++ blocks_of_rows k n (row.now ∷ [])) }
-    ensures size { OnOk result (size_of rows.new ≡ size_of rows.old + k + 1) }
+    ensures { OnOk result (rows.new ≡ rows.old ++ blocks_of_rows k n (raised c (row.now ∷ []))) }
 {
-    let mut block = [0; TD_K_MAX as usize];
-    for (j, symbol) in row.iter().enumerate() {
-        block[j] = j as u16 * n + symbol;
+    let mut entries = [0; TD_K_MAX as usize];
+    for j in 0..k as usize {
+        entries[j] = c + row[j];
     }
-    rows.push_row(&block[..k as usize])
+    push_block(rows, k, n, &entries[..k as usize])
 }
 
-/// The entry in column `j` of the row of a block, where groups have `n` points.
+/// Appends the blocks of rows of `k` symbols below `h`, with `c` added to each symbol.
 ///
-/// `j` is below the length of the block, and `n` is at least 1.
-#[tactic(auto, unfolding(crate::specs::Constructions::row_of_block))]
-pub fn symbol(block: &[u16], j: usize, n: u16) -> u16
-    requires column { j < length block.now }
-    requires points { 0 < n }
-    ensures value { result ≡ slice_index (row_of_block n block.now) j }
-    ensures small { result < n }
+/// `k` is at most `TD_K_MAX`, `n` at most `TD_N_MAX`, and `c + h` at most `n`. After `Memory`, which comes only for want of
+/// memory, the list holds some of the blocks.
+#[tactic(auto, using(crate::proofs::Steps::steps))]
+pub fn push_raised(
+    rows: &mut Rows,
+    k: u16,
+    n: u16,
+    c: u16,
+    h: u16,
+    array: &Rows,
+) -> Result<(), Memory>
+    requires groups { k ≤ TD_K_MAX }
+    requires points { n ≤ TD_N_MAX }
+    requires raised_points { c + h ≤ n }
+    requires rows { All (IsRow k h) array.now }
+    requires room { size_of rows.old + (k + 1) * length array.now < PACKED_MAX }
+    ensures { OnOk result (rows.new ≡ rows.old ++ blocks_of_rows k n (raised c array.now)) }
 {
-    block[j] % n
+    for row in array.iter() {
+        push_raised_row(rows, k, n, c, h, row)?;
+    }
+    Ok(())
 }

@@ -7,7 +7,7 @@ mod lines;
 mod modular;
 mod products;
 
-pub use blocks::{push_block, symbol, with_room};
+pub use blocks::{push_raised, with_room};
 pub use differences::parker;
 pub use lines::field_td;
 pub use modular::{cyclic, one};

@@ -8,10 +8,10 @@ ghost use Rattle.incidence.specs.Packed.{size_of};
 ghost use Rattle.transversal.specs.Conditions.{CanBuildField};
 ghost use Rattle.transversal.specs.Constructions.{field_blocks, field_row, field_rows};
 
-use crate::blocks::{push_block, with_room};
+use crate::blocks::with_room;
 use design_base::{Memory, PACKED_MAX, TD_K_MAX, TD_N_MAX};
 use field_tables::Field;
-use incidence::Rows;
+use incidence::{Rows, push_block};
 use std::alloc::Global;
 
 /// The transversal design of the lines over a field: for elements x and y the entries x and y + j * x for each element j,

@@ -8,9 +8,9 @@ ghost use Rattle.incidence.specs.Packed.{size_of};
 ghost use Rattle.transversal.specs.Conditions.{CanBuildCyclic, CanBuildOne};
 ghost use Rattle.transversal.specs.Constructions.{cyclic_blocks, cyclic_row, cyclic_rows, one_blocks};
 
-use crate::blocks::{push_block, with_room};
+use crate::blocks::with_room;
 use design_base::{Memory, PACKED_MAX, TD_K_MAX, TD_N_MAX};
-use incidence::Rows;
+use incidence::{Rows, push_block};
 use std::alloc::Global;
 
 /// The transversal design of `k` groups of one point: its only block holds all points.

@@ -1,15 +1,15 @@
 // Products of two designs.
-ghost use Rattle.std.specs.Prelude.{◌≡◌, ◌+◌, ◌*◌, ◌<◌, ◌≤◌, ◌++◌, [], ◌∷◌, IfOk, OnOk, length};
-ghost use Rattle.design_base.specs.Arrays.{blocks_of_rows, rows_of_blocks};
+ghost use Rattle.std.specs.Prelude.{◌≡◌, ◌+◌, ◌*◌, ◌<◌, ◌≤◌, ◌++◌, [], ◌∷◌, All, IfOk, OnOk, length};
+ghost use Rattle.design_base.specs.Arrays.{IsRow, blocks_of_rows};
 ghost use Rattle.design_base.specs.Blocks.{IsTd};
 ghost use Rattle.design_base.specs.Canonical.{canonical};
 ghost use Rattle.incidence.specs.Packed.{size_of};
 ghost use Rattle.transversal.specs.Conditions.{CanMultiply};
-ghost use Rattle.transversal.specs.Constructions.{AllOfSize, product_blocks, product_row, product_rows, products_of, row_of_block};
+ghost use Rattle.transversal.specs.Constructions.{product_blocks, product_row, product_rows, products_of};
 
-use crate::blocks::{push_block, symbol, with_room};
+use crate::blocks::with_room;
 use design_base::{Memory, PACKED_MAX, TD_K_MAX, TD_N_MAX};
-use incidence::Rows;
+use incidence::{Rows, array_of_td, push_block};
 use std::alloc::Global;
 
 /// The product of a transversal design of `k` groups of `a` points and one of `k` groups of `b` points: for each row r of
@@ -30,8 +30,10 @@ pub fn product(
     ensures blocks { IfOk result (λ rows. rows ≡ canonical (product_blocks k a b first.now second.now)) }
     ensures design { IfOk result (λ rows. IsTd rows k (a * b)) }
 {
+    let first = array_of_td(alloc, k, a, first)?;
+    let second = array_of_td(alloc, k, b, second)?;
     let mut rows = with_room(alloc, k, a * b)?;
-    push_products(&mut rows, k, a, b, first, second)?;
+    push_products(&mut rows, k, a, b, &first, &second)?;
     let blocks = rows.canonical()?;
     Ok(blocks)
 }
@@ -47,16 +49,14 @@ fn push_products(
     second: &Rows,
 ) -> Result<(), Memory>
     requires groups { k ≤ TD_K_MAX }
-    requires first_points { 1 ≤ a }
-    requires second_points { 1 ≤ b }
     requires points { a * b ≤ TD_N_MAX }
-    requires first_sizes { AllOfSize k first.now }
-    requires second_sizes { AllOfSize k second.now }
-    requires room { size_of rows.old + (TD_K_MAX + 1) * (length first.now * length second.now) < PACKED_MAX }
-    ensures ok { OnOk result (rows.new ≡ rows.old ++ blocks_of_rows k (a * b) (product_rows k b (rows_of_blocks a first.now) (rows_of_blocks b second.now))) }
+    requires first_rows { All (IsRow k a) first.now }
+    requires second_rows { All (IsRow k b) second.now }
+    requires room { size_of rows.old + (k + 1) * length (product_rows k b first.now second.now) < PACKED_MAX }
+    ensures { OnOk result (rows.new ≡ rows.old ++ blocks_of_rows k (a * b) (product_rows k b first.now second.now)) }
 {
-    for block in first.iter() {
-        push_products_of(rows, k, a, b, block, second)?;
+    for row in first.iter() {
+        push_products_of(rows, k, a, b, row, second)?;
     }
     Ok(())
 }
@@ -72,17 +72,14 @@ fn push_products_of(
     second: &Rows,
 ) -> Result<(), Memory>
     requires groups { k ≤ TD_K_MAX }
-    requires first_points { 1 ≤ a }
-    requires second_points { 1 ≤ b }
     requires points { a * b ≤ TD_N_MAX }
-    requires first_size { length first.now ≡ k }
-    requires second_sizes { AllOfSize k second.now }
-    requires room { size_of rows.old + (TD_K_MAX + 1) * length second.now < PACKED_MAX }
-    ensures ok { OnOk result (rows.new ≡ rows.old ++ blocks_of_rows k (a * b) (products_of k b (rows_of_blocks b second.now) (row_of_block a first.now))) }
-    ensures size { OnOk result (size_of rows.new ≤ size_of rows.old + (TD_K_MAX + 1) * length second.now) }
+    requires first_row { IsRow k a first.now }
+    requires second_rows { All (IsRow k b) second.now }
+    requires room { size_of rows.old + (k + 1) * length (products_of k b second.now first.now) < PACKED_MAX }
+    ensures { OnOk result (rows.new ≡ rows.old ++ blocks_of_rows k (a * b) (products_of k b second.now first.now)) }
 {
-    for block in second.iter() {
-        push_product(rows, k, a, b, first, block)?;
+    for row in second.iter() {
+        push_product(rows, k, a, b, first, row)?;
     }
     Ok(())
 }
@@ -98,18 +95,15 @@ fn push_product(
     second: &[u16],
 ) -> Result<(), Memory>
     requires groups { k ≤ TD_K_MAX }
-    requires first_points { 1 ≤ a }
-    requires second_points { 1 ≤ b }
     requires points { a * b ≤ TD_N_MAX }
-    requires first_size { length first.now ≡ k }
-    requires second_size { length second.now ≡ k }
+    requires first_row { IsRow k a first.now }
+    requires second_row { IsRow k b second.now }
     requires room { size_of rows.old + k + 1 < PACKED_MAX }
-    ensures ok { OnOk result (rows.new ≡ rows.old ++ blocks_of_rows k (a * b) (product_row k b (row_of_block a first.now) (row_of_block b second.now) ∷ [])) }
-    ensures size { OnOk result (size_of rows.new ≡ size_of rows.old + k + 1) }
+    ensures { OnOk result (rows.new ≡ rows.old ++ blocks_of_rows k (a * b) (product_row k b first.now second.now ∷ [])) }
 {
-    let mut row = [0; TD_K_MAX as usize];
+    let mut entries = [0; TD_K_MAX as usize];
     for j in 0..k as usize {
-        row[j] = symbol(first, j, a) * b + symbol(second, j, b);
+        entries[j] = first[j] * b + second[j];
     }
-    push_block(rows, k, a * b, &row[..k as usize])
+    push_block(rows, k, a * b, &entries[..k as usize])
 }

@@ -1,23 +1,20 @@
 -- What the builders give are transversal designs.
 use Rattle.std.proofs.Common.{List, [], ap, arith, drop, get_or, length, map, refl, subst, suc, sym, zero, ℕ, ◌*◌, ◌+◌, ◌<◌, ◌∙◌, ◌≡◌, ◌≢◌, ◌≤◌}
 use Rattle.std.proofs.Math.Nat.{mul-le-mul_left}
-use Rattle.std.proofs.lemmas.List.{length-drop, length-map}
-use Rattle.std.proofs.lemmas.List.Edits.{length-remove}
-use Rattle.std.proofs.lemmas.Nat.{mul-le}
 use Rattle.std.specs.List.{remove}
 use Rattle.std.specs.Prelude.{All}
 use Rattle.design_base.proofs.Groups.{oa_from_td}
 use Rattle.design_base.specs.Arrays.{IsOa, IsRow, rows_of_blocks}
 use Rattle.design_base.specs.Blocks.{IsTd}
 use Rattle.design_base.specs.Canonical.{canonical}
-use Rattle.design_base.specs.declared.limits.TheConstants.{TD_N_MAX}
-use Rattle.transversal.proofs.Designs.{length_of_td, td_of_oa}
+use Rattle.incidence.proofs.RowsAndBlocks.{length_of_td}
+use Rattle.transversal.proofs.Designs.{td_of_oa}
 use Rattle.wilson.proofs.Apart.{first_apart-below, first_apart-differs}
 use Rattle.wilson.proofs.HoledArray.{holed_is, holed_twice_is}
 use Rattle.wilson.proofs.OneGroup.{wilson_one_is_oa}
 use Rattle.wilson.proofs.TwoGroups.{wilson_two_is_oa}
 use Rattle.wilson.specs.Conditions.{CanTruncateOnce, CanTruncateTwice}
-use Rattle.wilson.specs.Holes.{first_apart, holed, holed_twice, renumbered_row, renumbered_row_twice}
+use Rattle.wilson.specs.Holes.{first_apart, holed, holed_twice, renumbered_row_twice}
 use Rattle.wilson.specs.Truncations.{wilson_one_blocks, wilson_one_rows, wilson_two_blocks, wilson_two_rows}
 
 -- ---- the stated lists, wherever the construction has what it needs
@@ -39,13 +36,6 @@ wilson_two_design k m t u w M A E F U W can =
     (oa_from_td k (m + 1) E (omega arith) can.large can.two_groups) (oa_from_td k (m + 2) F (omega arith) can.larger can.two_groups)
     (oa_from_td k u U can.first_some_kept can.first_rest can.two_groups) (oa_from_td k w W can.second_some_kept can.second_rest can.two_groups))
 
--- how many blocks a design has at most
-pub few_blocks : (k n : ℕ) (B : List (List ℕ)) → 2 ≤ k → 1 ≤ n → n ≤ TD_N_MAX → IsTd B k n → length B ≤ TD_N_MAX * TD_N_MAX
-few_blocks k n B two some most td = subst (λ rows. rows ≤ TD_N_MAX * TD_N_MAX) (sym (length_of_td k n B td two some)) (mul-le n n TD_N_MAX TD_N_MAX most most)
-
-pub few_rows : (k n : ℕ) (R : List (List ℕ)) → n ≤ TD_N_MAX → IsOa R k n → length R ≤ TD_N_MAX * TD_N_MAX
-few_rows k n R most oa = subst (λ rows. rows ≤ TD_N_MAX * TD_N_MAX) (sym oa.count) (mul-le n n TD_N_MAX TD_N_MAX most most)
-
 -- the orders of the ingredients are within that of the design
 pub group_within : (m t : ℕ) → 1 ≤ m → t ≤ m * t
 group_within (suc m) t some = omega arith
@@ -61,10 +51,6 @@ some_block k n B two some td = omega (arith, length_of_td k n B td two some, mul
 module _ (k m : ℕ) (R S : List (List ℕ)) (oa : IsOa R k (m + 1)) (is : S ≡ holed k m R) where
   pub holed_rows : All (IsRow k (m + 1)) S
   holed_rows = subst (All (IsRow k (m + 1))) (sym is) (holed_is k m R oa).rows
-
-  pub holed_few : m + 1 ≤ TD_N_MAX → length S ≤ TD_N_MAX * TD_N_MAX
-  unfolding holed
-  holed_few most = omega (arith, few_rows k (m + 1) R most oa, ap length is, length-map (drop 1 R) (renumbered_row k m (get_or R 0 [])), length-drop 1 R)
 
 -- an array without two rows
 module _ (k m e : ℕ) (R : List (List ℕ)) (two : 2 ≤ k) (few : k ≤ m + 2) (oa : IsOa R k (m + 2)) (apart : e ≡ first_apart k R) where
@@ -88,13 +74,3 @@ module _ (k m e : ℕ) (R : List (List ℕ)) (two : 2 ≤ k) (few : k ≤ m + 2)
 
     pub holed_twice_rows : All (IsRow k (m + 2)) S
     holed_twice_rows = subst (All (IsRow k (m + 2))) (sym holed_twice_without) (holed_twice_is k m R two few oa).rows
-
-    pub holed_twice_few : m + 2 ≤ TD_N_MAX → length S ≤ TD_N_MAX * TD_N_MAX
-    holed_twice_few most = omega (
-      arith,
-      few_rows k (m + 2) R most oa,
-      ap length is,
-      length-map (drop 1 (remove R e)) (renumbered_row_twice k m (get_or R 0 []) (get_or R e [])),
-      length-drop 1 (remove R e),
-      length-remove R e apart_within,
-    )

@@ -5,5 +5,6 @@ pub mod OneGroup
 pub mod TwoGroups
 pub mod DisjointRows
 pub mod Designs
+pub mod Rooms
 pub mod Steps
 pub mod Samples

@@ -1,43 +1,19 @@
 -- The steps of the loops that write rows: what there is before the first, and what one more adds.
 use Rattle.std.proofs.Common.{List, Some, [], ap, ap₂, arith, drop, get_or, inl, inr, length, map, refl, slice_set, suc, zero, subst, sym, take, ℕ, ◌%◌, ◌*◌, ◌++◌, ◌+◌, ◌-◌, ◌<◌, ◌∙◌, ◌∷◌, ◌≡◌, ◌≢◌, ◌≤◌}
-use Rattle.std.proofs.lemmas.List.{append-nil, append_assoc, get_or-map, length-take-le, map-append, take_all, take_more, take_more_set}
+use Rattle.std.proofs.lemmas.List.{append-nil, append_assoc, length-map, length-take-le, map-append, take_all, take_more, take_more_set}
 use Rattle.std.proofs.lemmas.List.Edits.{length-remove, remove-append_left}
 use Rattle.std.proofs.lemmas.Bool.{cases_lt, cond_above, cond_below}
-use Rattle.std.proofs.lemmas.List.Elements.{All-from_recursion, All-tail}
 use Rattle.std.specs.List.{flat_map, remove}
 use Rattle.std.proofs.lemmas.Option.{get_or_from_slice_get}
-use Rattle.std.specs.Prelude.{All, slice_get}
+use Rattle.std.specs.Prelude.{slice_get}
 use Rattle.counting.specs.Sums.{join_below}
-use Rattle.design_base.specs.Arrays.{IsRow, blocks_of_rows, rows_of_blocks}
-use Rattle.transversal.proofs.Raise.{raised_rows}
-use Rattle.transversal.proofs.Steps.{blocks_of_no_rows, blocks_of_rows_append, front_next}
-use Rattle.transversal.specs.Constructions.{raised, row_of_block}
+use Rattle.design_base.specs.Arrays.{IsRow, blocks_of_rows}
+use Rattle.incidence.proofs.RowsAndBlocks.{blocks_of_no_rows, blocks_of_rows_append, blocks_of_rows_next, front_next}
+use Rattle.transversal.specs.Constructions.{raised}
 use Rattle.wilson.specs.Holes.{holed, holed_twice, renumbered, renumbered_row, renumbered_row_twice, renumbered_twice}
 use Rattle.wilson.specs.Truncations.{fill_one, fill_two, filled, filled_row, filled_rows, wilson_one_rows, wilson_two_rows}
 
 -- ---- entries written one after another
-
--- the row of a block
-pub symbols_none : (n : ℕ) → row_of_block n [] ≡ []
-unfolding row_of_block
-symbols_none n = refl
-
-pub symbols_next : (n : ℕ) (block row : List ℕ) (j x : ℕ) → j < length row → j < length block → take j row ≡ row_of_block n (take j block) → x ≡ get_or (row_of_block n block) j 0 →
-    take (j + 1) (slice_set row j x) ≡ row_of_block n (take (j + 1) block)
-unfolding row_of_block
-symbols_next n block row j x l h e is = take_more_set row j x l ∙ ap₂ (λ front x. front ++ x ∷ []) e (is ∙ get_or-map (λ x. x % n) block j 0 0 h)
-    ∙ sym (map-append (λ x. x % n) (take j block) (get_or block j 0 ∷ [])) ∙ ap (map (λ x. x % n)) (sym (take_more block j 0 h))
-
--- a row with c added to each symbol
-pub raised_row_none : (c : ℕ) → raised c ([] ∷ []) ≡ [] ∷ []
-unfolding raised
-raised_row_none c = refl
-
-pub raised_row_next : (c : ℕ) (row new : List ℕ) (j x : ℕ) → j < length new → j < length row → take j new ∷ [] ≡ raised c (take j row ∷ []) → x ≡ c + get_or row j 0 →
-    take (j + 1) (slice_set new j x) ∷ [] ≡ raised c (take (j + 1) row ∷ [])
-unfolding raised
-raised_row_next c row new j x l h e is = ap (λ xs. xs ∷ []) (take_more_set new j x l ∙ ap₂ (λ front x. front ++ x ∷ []) (ap (λ R. get_or R 0 []) e) is
-    ∙ sym (map-append (λ x. c + x) (take j row) (get_or row j 0 ∷ [])) ∙ ap (map (λ x. c + x)) (sym (take_more row j 0 h)))
 
 -- renumbered rows and filled rows
 pub renumbered_row_none : (m : ℕ) (f r : List ℕ) → renumbered_row 0 m f r ≡ []
@@ -71,27 +47,7 @@ filled_row_next m infinite a r new j x l e is = front_next (λ j. filled m infin
 pub row_from_front : (k n j : ℕ) (f : ℕ → List ℕ) (entries : List ℕ) → j ≤ k → k ≤ j → take j entries ≡ f j → IsRow k n (f k) → IsRow k n (take k entries)
 row_from_front k n j f entries low high is row = let done : j ≡ k = omega arith in subst (IsRow k n) (sym (subst (λ j. take j entries ≡ f j) done is)) row
 
-pub raised_from_front : (k n h c j : ℕ) (row entries : List ℕ) → j ≤ k → k ≤ j → c + h ≤ n → IsRow k h row → take j entries ∷ [] ≡ raised c (take j row ∷ []) → IsRow k n (take k entries)
-raised_from_front k n h c j row entries low high fits v is =
-    let done : j ≡ k = omega arith in
-    let all : take k entries ∷ [] ≡ raised c (take k row ∷ []) = subst (λ j. take j entries ∷ [] ≡ raised c (take j row ∷ [])) done is in
-    let whole : take k row ≡ row = take_all k row (omega (arith, v.size)) in
-    let rows : All (IsRow k h) (take k row ∷ []) = All-from_recursion (IsRow k h) (take k row ∷ []) (subst (IsRow k h) (sym whole) v, tt) in
-    subst (All (IsRow k n)) (sym all) (raised_rows k h c (take k row ∷ []) rows n fits) 0 [] (omega arith)
-
 -- ---- rows written one after another
-
--- what is left after a row
-pub left_after : (P : List ℕ → Type 0) (all : List (List ℕ)) (row : List ℕ) (rest : List (List ℕ)) → all ≡ row ∷ rest → All P all → All P rest
-left_after P all row rest is each = let now : All P (row ∷ rest) = subst (All P) is each in All-tail P row rest now
-
-pub symbol_rows_none : (n : ℕ) → rows_of_blocks n [] ≡ []
-unfolding rows_of_blocks
-symbol_rows_none n = refl
-
-pub symbol_rows_next : (n : ℕ) (block : List ℕ) (rest : List (List ℕ)) → rows_of_blocks n (block ∷ rest) ≡ row_of_block n block ∷ [] ++ rows_of_blocks n rest
-unfolding rows_of_blocks row_of_block
-symbol_rows_next n block rest = refl
 
 -- an array without its first row, as far as place i
 pub holed_none : (k m : ℕ) (R : List (List ℕ)) → holed k m (take 1 R) ≡ []
@@ -198,21 +154,16 @@ filled_rows_none k m infinite a = refl
 
 pub blocks_of_filled_next : (k n m : ℕ) (infinite a row : List ℕ) (rest : List (List ℕ)) →
     blocks_of_rows k n (filled_rows k m infinite a (row ∷ rest)) ≡ blocks_of_rows k n (filled_row k m infinite a row ∷ []) ++ blocks_of_rows k n (filled_rows k m infinite a rest)
-unfolding filled_rows blocks_of_rows
-blocks_of_filled_next k n m infinite a row rest = refl
+unfolding filled_rows
+blocks_of_filled_next k n m infinite a row rest = blocks_of_rows_next k n (filled_row k m infinite a row) (map (filled_row k m infinite a) rest)
 
 pub blocks_of_fills_next : (k n : ℕ) (f : List ℕ → List (List ℕ)) (row : List ℕ) (rest : List (List ℕ)) →
     blocks_of_rows k n (flat_map f (row ∷ rest)) ≡ blocks_of_rows k n (f row) ++ blocks_of_rows k n (flat_map f rest)
 blocks_of_fills_next k n f row rest = blocks_of_rows_append k n (f row) (flat_map f rest)
 
-pub raised_no_rows : (c : ℕ) → raised c [] ≡ []
-unfolding raised
-raised_no_rows c = refl
-
-pub blocks_of_raised_rows_next : (k n c : ℕ) (row : List ℕ) (rest : List (List ℕ)) →
-    blocks_of_rows k n (raised c (row ∷ rest)) ≡ blocks_of_rows k n (raised c (row ∷ [])) ++ blocks_of_rows k n (raised c rest)
-unfolding raised blocks_of_rows
-blocks_of_raised_rows_next k n c row rest = refl
+pub filled_rows_length : (k m : ℕ) (infinite a : List ℕ) (R : List (List ℕ)) → length (filled_rows k m infinite a R) ≡ length R
+unfolding filled_rows
+filled_rows_length k m infinite a R = length-map R (filled_row k m infinite a)
 
 -- the rows of one master row
 pub fill_one_kept : (k m t u : ℕ) (A E : List (List ℕ)) (a : List ℕ) → get_or a k 0 < u → fill_one k m t u A E a ≡ filled_rows k m ((m * t + get_or a k 0) ∷ []) a E
@@ -253,4 +204,4 @@ unfolding wilson_two_rows
 blocks_of_wilson_two k n m t u w M A E F U W = blocks_of_rows_append k n (flat_map (fill_two k m t u w A (holed k m E) (holed_twice k m F)) M) (raised (m * t) U ++ raised (m * t + u) W)
     ∙ ap (λ xs. blocks_of_rows k n (flat_map (fill_two k m t u w A (holed k m E) (holed_twice k m F)) M) ++ xs) (blocks_of_rows_append k n (raised (m * t) U) (raised (m * t + u) W))
 
-pub ruleset steps = (append-nil, append_assoc, symbol_rows_none, symbol_rows_next, filled_rows_none, blocks_of_no_rows, blocks_of_filled_next, blocks_of_fills_next, raised_no_rows, blocks_of_raised_rows_next, blocks_of_wilson_one, blocks_of_wilson_two)
+pub ruleset steps = (append-nil, append_assoc, filled_rows_none, blocks_of_no_rows, blocks_of_filled_next, blocks_of_fills_next, blocks_of_wilson_one, blocks_of_wilson_two)

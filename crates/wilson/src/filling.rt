@@ -1,13 +1,11 @@
 // Master rows filled with the rows of an ingredient.
-ghost use Rattle.std.specs.Prelude.{◌≡◌, ◌+◌, ◌*◌, ◌<◌, ◌≤◌, ◌++◌, [], ◌∷◌, All, IfOk, OnOk, flat_map, length};
+ghost use Rattle.std.specs.Prelude.{◌≡◌, ◌+◌, ◌*◌, ◌<◌, ◌≤◌, ◌++◌, [], ◌∷◌, All, OnOk, flat_map, length};
 ghost use Rattle.design_base.specs.Arrays.{IsRow, blocks_of_rows};
 ghost use Rattle.incidence.specs.Packed.{size_of};
-ghost use Rattle.transversal.specs.Constructions.{raised};
 ghost use Rattle.wilson.specs.Truncations.{fill_one, fill_two, filled as filled_symbol, filled_row, filled_rows};
 
 use design_base::{Memory, PACKED_MAX, TD_K_MAX, TD_N_MAX};
-use incidence::Rows;
-use transversal::push_block;
+use incidence::{Rows, push_block};
 
 // A symbol `s` below `m` gives the point `x * m + s`, and the symbols from `m` on give the infinite points in their order.
 #[tactic(auto, unfolding(crate::specs::Truncations::filled))]
@@ -41,8 +39,7 @@ fn push_filled_row(
     requires master_points { All (λ x. x * m + m ≤ n) master.now }
     requires row { IsRow k (m + length infinite.now) row.now }
     requires room { size_of rows.old + k + 1 < PACKED_MAX }
-    ensures ok { OnOk result (rows.new ≡ rows.old ++ blocks_of_rows k n (filled_row k m infinite.now master.now row.now ∷ [])) }
-    ensures size { OnOk result (size_of rows.new ≡ size_of rows.old + k + 1) }
+    ensures { OnOk result (rows.new ≡ rows.old ++ blocks_of_rows k n (filled_row k m infinite.now master.now row.now ∷ [])) }
 {
     let mut entries = [0; TD_K_MAX as usize];
     for j in 0..k as usize {
@@ -68,9 +65,8 @@ fn push_filled(
     requires columns { k ≤ length master.now }
     requires master_points { All (λ x. x * m + m ≤ n) master.now }
     requires rows { All (IsRow k (m + length infinite.now)) ingredient.now }
-    requires room { size_of rows.old + (TD_K_MAX + 1) * length ingredient.now < PACKED_MAX }
-    ensures ok { OnOk result (rows.new ≡ rows.old ++ blocks_of_rows k n (filled_rows k m infinite.now master.now ingredient.now)) }
-    ensures size { OnOk result (size_of rows.new ≤ size_of rows.old + (TD_K_MAX + 1) * length ingredient.now) }
+    requires room { size_of rows.old + (k + 1) * length ingredient.now < PACKED_MAX }
+    ensures { OnOk result (rows.new ≡ rows.old ++ blocks_of_rows k n (filled_rows k m infinite.now master.now ingredient.now)) }
 {
     for row in ingredient.iter() {
         push_filled_row(rows, k, n, m, infinite, master, row)?;
@@ -79,7 +75,7 @@ fn push_filled(
 }
 
 // Appends the blocks for one master row with column `k` truncated to `u` symbols.
-#[tactic(auto, using(crate::proofs::Steps::fill_one_kept, crate::proofs::Steps::fill_one_dropped))]
+#[tactic(auto, using(crate::proofs::Steps::fill_one_kept, crate::proofs::Steps::fill_one_dropped, crate::proofs::Steps::filled_rows_length))]
 fn push_fill_one(
     rows: &mut Rows,
     k: u16,
@@ -94,12 +90,9 @@ fn push_fill_one(
     requires points { m * t + u ≤ TD_N_MAX }
     requires small_rows { All (IsRow k m) small.now }
     requires large_rows { All (IsRow k (m + 1)) large.now }
-    requires few_small { length small.now ≤ TD_N_MAX * TD_N_MAX }
-    requires few_large { length large.now ≤ TD_N_MAX * TD_N_MAX }
     requires master_row { IsRow (k + 1) t master.now }
-    requires room { size_of rows.old + (TD_K_MAX + 1) * TD_N_MAX * TD_N_MAX < PACKED_MAX }
-    ensures ok { OnOk result (rows.new ≡ rows.old ++ blocks_of_rows k (m * t + u) (fill_one k m t u small.now large.now master.now)) }
-    ensures size { OnOk result (size_of rows.new ≤ size_of rows.old + (TD_K_MAX + 1) * TD_N_MAX * TD_N_MAX) }
+    requires room { size_of rows.old + (k + 1) * length (fill_one k m t u small.now large.now master.now) < PACKED_MAX }
+    ensures { OnOk result (rows.new ≡ rows.old ++ blocks_of_rows k (m * t + u) (fill_one k m t u small.now large.now master.now)) }
 {
     let n = m * t + u;
     let y = master[usize::from(k)];
@@ -126,12 +119,9 @@ pub fn push_fills_one(
     requires points { m * t + u ≤ TD_N_MAX }
     requires small_rows { All (IsRow k m) small.now }
     requires large_rows { All (IsRow k (m + 1)) large.now }
-    requires few_small { length small.now ≤ TD_N_MAX * TD_N_MAX }
-    requires few_large { length large.now ≤ TD_N_MAX * TD_N_MAX }
     requires master_rows { All (IsRow (k + 1) t) master.now }
-    requires room { size_of rows.old + (TD_K_MAX + 1) * TD_N_MAX * TD_N_MAX * length master.now < PACKED_MAX }
-    ensures ok { OnOk result (rows.new ≡ rows.old ++ blocks_of_rows k (m * t + u) (flat_map (fill_one k m t u small.now large.now) master.now)) }
-    ensures size { OnOk result (size_of rows.new ≤ size_of rows.old + (TD_K_MAX + 1) * TD_N_MAX * TD_N_MAX * length master.now) }
+    requires room { size_of rows.old + (k + 1) * length (flat_map (fill_one k m t u small.now large.now) master.now) < PACKED_MAX }
+    ensures { OnOk result (rows.new ≡ rows.old ++ blocks_of_rows k (m * t + u) (flat_map (fill_one k m t u small.now large.now) master.now)) }
 {
     for row in master.iter() {
         push_fill_one(rows, k, m, t, u, small, large, row)?;
@@ -140,7 +130,7 @@ pub fn push_fills_one(
 }
 
 // Appends the blocks for one master row with column `k` truncated to `u` symbols and column `k + 1` to `w`.
-#[tactic(auto, using(crate::proofs::Steps::fill_two_both, crate::proofs::Steps::fill_two_first, crate::proofs::Steps::fill_two_second, crate::proofs::Steps::fill_two_none))]
+#[tactic(auto, using(crate::proofs::Steps::fill_two_both, crate::proofs::Steps::fill_two_first, crate::proofs::Steps::fill_two_second, crate::proofs::Steps::fill_two_none, crate::proofs::Steps::filled_rows_length))]
 fn push_fill_two(
     rows: &mut Rows,
     k: u16,
@@ -158,13 +148,9 @@ fn push_fill_two(
     requires small_rows { All (IsRow k m) small.now }
     requires large_rows { All (IsRow k (m + 1)) large.now }
     requires larger_rows { All (IsRow k (m + 2)) larger.now }
-    requires few_small { length small.now ≤ TD_N_MAX * TD_N_MAX }
-    requires few_large { length large.now ≤ TD_N_MAX * TD_N_MAX }
-    requires few_larger { length larger.now ≤ TD_N_MAX * TD_N_MAX }
     requires master_row { IsRow (k + 2) t master.now }
-    requires room { size_of rows.old + (TD_K_MAX + 1) * TD_N_MAX * TD_N_MAX < PACKED_MAX }
-    ensures ok { OnOk result (rows.new ≡ rows.old ++ blocks_of_rows k (m * t + u + w) (fill_two k m t u w small.now large.now larger.now master.now)) }
-    ensures size { OnOk result (size_of rows.new ≤ size_of rows.old + (TD_K_MAX + 1) * TD_N_MAX * TD_N_MAX) }
+    requires room { size_of rows.old + (k + 1) * length (fill_two k m t u w small.now large.now larger.now master.now) < PACKED_MAX }
+    ensures { OnOk result (rows.new ≡ rows.old ++ blocks_of_rows k (m * t + u + w) (fill_two k m t u w small.now large.now larger.now master.now)) }
 {
     let n = m * t + u + w;
     let y = master[usize::from(k)];
@@ -201,65 +187,12 @@ pub fn push_fills_two(
     requires small_rows { All (IsRow k m) small.now }
     requires large_rows { All (IsRow k (m + 1)) large.now }
     requires larger_rows { All (IsRow k (m + 2)) larger.now }
-    requires few_small { length small.now ≤ TD_N_MAX * TD_N_MAX }
-    requires few_large { length large.now ≤ TD_N_MAX * TD_N_MAX }
-    requires few_larger { length larger.now ≤ TD_N_MAX * TD_N_MAX }
     requires master_rows { All (IsRow (k + 2) t) master.now }
-    requires room { size_of rows.old + (TD_K_MAX + 1) * TD_N_MAX * TD_N_MAX * length master.now < PACKED_MAX }
-    ensures ok { OnOk result (rows.new ≡ rows.old ++ blocks_of_rows k (m * t + u + w) (flat_map (fill_two k m t u w small.now large.now larger.now) master.now)) }
-    ensures size { OnOk result (size_of rows.new ≤ size_of rows.old + (TD_K_MAX + 1) * TD_N_MAX * TD_N_MAX * length master.now) }
+    requires room { size_of rows.old + (k + 1) * length (flat_map (fill_two k m t u w small.now large.now larger.now) master.now) < PACKED_MAX }
+    ensures { OnOk result (rows.new ≡ rows.old ++ blocks_of_rows k (m * t + u + w) (flat_map (fill_two k m t u w small.now large.now larger.now) master.now)) }
 {
     for row in master.iter() {
         push_fill_two(rows, k, m, t, u, w, small, large, larger, row)?;
-    }
-    Ok(())
-}
-
-// Appends the block of a row of `k` symbols below `h`, with `c` added to each.
-#[tactic(auto, using(crate::proofs::Steps::raised_row_none))]
-fn push_raised_row(
-    rows: &mut Rows,
-    k: u16,
-    n: u16,
-    c: u16,
-    h: u16,
-    row: &[u16],
-) -> Result<(), Memory>
-    requires groups { k ≤ TD_K_MAX }
-    requires points { n ≤ TD_N_MAX }
-    requires raised_points { c + h ≤ n }
-    requires row { IsRow k h row.now }
-    requires room { size_of rows.old + k + 1 < PACKED_MAX }
-    ensures ok { OnOk result (rows.new ≡ rows.old ++ blocks_of_rows k n (raised c (row.now ∷ []))) }
-    ensures size { OnOk result (size_of rows.new ≡ size_of rows.old + k + 1) }
-{
-    let mut entries = [0; TD_K_MAX as usize];
-    for j in 0..k as usize {
-        entries[j] = c + row[j];
-    }
-    push_block(rows, k, n, &entries[..k as usize])
-}
-
-// Appends the blocks of rows of `k` symbols below `h`, with `c` added to each.
-#[tactic(auto, using(crate::proofs::Steps::steps))]
-pub fn push_raised(
-    rows: &mut Rows,
-    k: u16,
-    n: u16,
-    c: u16,
-    h: u16,
-    array: &Rows,
-) -> Result<(), Memory>
-    requires groups { k ≤ TD_K_MAX }
-    requires points { n ≤ TD_N_MAX }
-    requires raised_points { c + h ≤ n }
-    requires rows { All (IsRow k h) array.now }
-    requires room { size_of rows.old + (TD_K_MAX + 1) * length array.now < PACKED_MAX }
-    ensures ok { OnOk result (rows.new ≡ rows.old ++ blocks_of_rows k n (raised c array.now)) }
-    ensures size { OnOk result (size_of rows.new ≤ size_of rows.old + (TD_K_MAX + 1) * length array.now) }
-{
-    for row in array.iter() {
-        push_raised_row(rows, k, n, c, h, row)?;
     }
     Ok(())
 }

@@ -1,52 +1,12 @@
-// Orthogonal arrays as lists of rows, and such arrays without one row or two rows.
+// Orthogonal arrays without one row or two rows.
 ghost use Rattle.std.specs.Prelude.{◌≡◌, ◌≢◌, ◌+◌, ◌*◌, ◌<◌, ◌≤◌, ◌++◌, ℕ, [], ◌∷◌, All, IfOk, OnOk, drop, length, map, remove, slice_index, slice_index_or};
-ghost use Rattle.design_base.specs.Arrays.{IsOa, IsRow, rows_of_blocks};
-ghost use Rattle.design_base.specs.Blocks.{IsTd};
+ghost use Rattle.design_base.specs.Arrays.{IsOa, IsRow};
 ghost use Rattle.incidence.specs.Packed.{size_of};
-ghost use Rattle.transversal.specs.Constructions.{row_of_block};
 ghost use Rattle.wilson.specs.Holes.{first_apart, holed as holed_array, holed_twice as array_holed_twice, renumbered as renumbered_symbol, renumbered_row, renumbered_row_twice, renumbered_twice as symbol_renumbered_twice};
 
 use design_base::{Memory, PACKED_MAX, TD_K_MAX, TD_N_MAX};
 use incidence::Rows;
 use std::alloc::Global;
-use transversal::symbol;
-
-// The orthogonal array of a transversal design of `k` groups of `n` points: the rows of its blocks.
-#[tactic(auto, using(crate::proofs::Steps::steps))]
-pub fn symbol_rows(alloc: Global, k: u16, n: u16, td: &Rows) -> Result<Rows, Memory>
-    requires two_groups { 2 ≤ k }
-    requires groups { k ≤ TD_K_MAX }
-    requires one_point { 1 ≤ n }
-    requires points { n ≤ TD_N_MAX }
-    requires design { IsTd td.now k n }
-    ensures rows { IfOk result (λ rows. rows ≡ rows_of_blocks n td.now) }
-    ensures array { IfOk result (λ rows. IsOa rows k n) }
-    ensures few { IfOk result (λ rows. length rows ≤ TD_N_MAX * TD_N_MAX) }
-{
-    let mut rows = Rows::new(alloc);
-    rows.reserve(td.len(), td.len() * usize::from(k))?;
-    for block in td.iter() {
-        push_symbols(&mut rows, k, n, block)?;
-    }
-    Ok(rows)
-}
-
-// Appends the row of a block.
-#[tactic(auto, using(crate::proofs::Steps::symbols_none))]
-fn push_symbols(rows: &mut Rows, k: u16, n: u16, block: &[u16]) -> Result<(), Memory>
-    requires groups { k ≤ TD_K_MAX }
-    requires points { 0 < n }
-    requires size { length block.now ≡ k }
-    requires room { size_of rows.old + k + 1 < PACKED_MAX }
-    ensures ok { OnOk result (rows.new ≡ rows.old ++ row_of_block n block.now ∷ []) }
-    ensures size { OnOk result (size_of rows.new ≡ size_of rows.old + k + 1) }
-{
-    let mut row = [0; TD_K_MAX as usize];
-    for j in 0..k as usize {
-        row[j] = symbol(block, j, n);
-    }
-    rows.push_row(&row[..k as usize])
-}
 
 // `f` becomes `m`, and the other symbols up to `m` become 0 to `m` - 1 in ascending order.
 #[tactic(auto, unfolding(crate::specs::Holes::renumbered, counting::specs::Sums::one))]
@@ -87,7 +47,6 @@ pub fn holed(alloc: Global, k: u16, m: u16, array: &Rows) -> Result<Rows, Memory
     requires array { IsOa array.now k (m + 1) }
     ensures without { IfOk result (λ rows. rows ≡ holed_array k m array.now) }
     ensures rows { IfOk result (λ rows. All (IsRow k (m + 1)) rows) }
-    ensures few { IfOk result (λ rows. length rows ≤ TD_N_MAX * TD_N_MAX) }
 {
     let mut rows = Rows::new(alloc);
     rows.reserve(array.len(), array.len() * usize::from(k))?;
@@ -175,7 +134,6 @@ pub fn holed_twice(alloc: Global, k: u16, m: u16, e: usize, array: &Rows) -> Res
     requires apart { e ≡ first_apart k array.now }
     ensures without { IfOk result (λ rows. rows ≡ array_holed_twice k m array.now) }
     ensures rows { IfOk result (λ rows. All (IsRow k (m + 2)) rows) }
-    ensures few { IfOk result (λ rows. length rows ≤ TD_N_MAX * TD_N_MAX) }
 {
     let rows = without_two(alloc, k, m, e, array)?;
     Ok(rows)

@@ -1,7 +1,11 @@
 // Blocks that were computed elsewhere.
+ghost use Rattle.std.specs.Prelude.{◌+◌, ◌≤◌, IfOk};
+ghost use Rattle.design_base.specs.Blocks.{IsTd};
+
 use super::*;
-use field_tables::Fields;
+use field_tables::open_field;
 use incidence::Rows;
+use std::alloc::Global;
 use std::process::Abort;
 use std::test::Fail;
 use transversal::{field_td, one};
@@ -20,30 +24,35 @@ fn assert_place(rt: &impl Abort, rows: &Rows, place: Option<usize>) {
     assert_eq!(rt; disjoint_from_first(rows), place);
 }
 
+// The transversal design of the lines over the field of `q` elements, in `k` groups.
+fn lines_over(alloc: Global, q: u16, k: u16) -> Result<Rows, Fail>
+    requires two_groups { 2 ≤ k }
+    requires columns { k ≤ q + 1 }
+    requires points { q ≤ 64 }
+    ensures { IfOk result (λ rows. IsTd rows k q) }
+{
+    let field = open_field(alloc, q)?.ok_or("no field")?;
+    let rows = field_td(alloc, &field, k)?;
+    Ok(rows)
+}
+
 #[test]
 fn disjoint_blocks(rt: HostRuntime) -> Result<(), Fail> {
     let alloc = rt.alloc();
-    let fields = Fields::open(alloc)?;
-    let three = fields.field(3).ok_or("no field")?;
-    let four = fields.field(4).ok_or("no field")?;
-    assert_place(&rt, &field_td(alloc, three, 3)?, Some(4));
-    assert_place(&rt, &field_td(alloc, three, 4)?, None);
-    assert_place(&rt, &field_td(alloc, four, 3)?, Some(6));
-    assert_place(&rt, &field_td(alloc, four, 4)?, Some(7));
-    assert_place(&rt, &field_td(alloc, four, 5)?, None);
+    assert_place(&rt, &lines_over(alloc, 3, 3)?, Some(4));
+    assert_place(&rt, &lines_over(alloc, 3, 4)?, None);
+    assert_place(&rt, &lines_over(alloc, 4, 3)?, Some(6));
+    assert_place(&rt, &lines_over(alloc, 4, 4)?, Some(7));
+    assert_place(&rt, &lines_over(alloc, 4, 5)?, None);
     Ok(())
 }
 
 #[test]
 fn one_truncated_group(rt: HostRuntime) -> Result<(), Fail> {
     let alloc = rt.alloc();
-    let fields = Fields::open(alloc)?;
-    let three = fields.field(3).ok_or("no field")?;
-    let four = fields.field(4).ok_or("no field")?;
-    let five = fields.field(5).ok_or("no field")?;
-    let master = field_td(alloc, five, 5)?;
-    let small = field_td(alloc, three, 4)?;
-    let large = field_td(alloc, four, 4)?;
+    let master = lines_over(alloc, 5, 5)?;
+    let small = lines_over(alloc, 3, 4)?;
+    let large = lines_over(alloc, 4, 4)?;
     let rows = truncate_one(alloc, 4, 3, 5, 3, &master, &small, &large, &small)?;
     assert_blocks(&rt, &rows, 324, &[0, 18, 51, 56], &[0, 19, 38, 69]);
     Ok(())
@@ -52,11 +61,9 @@ fn one_truncated_group(rt: HostRuntime) -> Result<(), Fail> {
 #[test]
 fn one_group_of_three_points(rt: HostRuntime) -> Result<(), Fail> {
     let alloc = rt.alloc();
-    let fields = Fields::open(alloc)?;
-    let three = fields.field(3).ok_or("no field")?;
-    let master = field_td(alloc, three, 4)?;
-    let small = field_td(alloc, fields.field(2).ok_or("no field")?, 3)?;
-    let large = field_td(alloc, three, 3)?;
+    let master = lines_over(alloc, 3, 4)?;
+    let small = lines_over(alloc, 2, 3)?;
+    let large = lines_over(alloc, 3, 3)?;
     let point = one(alloc, 3)?;
     let rows = truncate_one(alloc, 3, 2, 3, 1, &master, &small, &large, &point)?;
     assert_blocks(&rt, &rows, 49, &[0, 7, 15], &[0, 8, 20]);
@@ -70,11 +77,10 @@ fn one_group_of_three_points(rt: HostRuntime) -> Result<(), Fail> {
 #[test]
 fn two_truncated_groups(rt: HostRuntime) -> Result<(), Fail> {
     let alloc = rt.alloc();
-    let fields = Fields::open(alloc)?;
-    let master = field_td(alloc, fields.field(7).ok_or("no field")?, 6)?;
-    let small = field_td(alloc, fields.field(3).ok_or("no field")?, 4)?;
-    let large = field_td(alloc, fields.field(4).ok_or("no field")?, 4)?;
-    let larger = field_td(alloc, fields.field(5).ok_or("no field")?, 4)?;
+    let master = lines_over(alloc, 7, 6)?;
+    let small = lines_over(alloc, 3, 4)?;
+    let large = lines_over(alloc, 4, 4)?;
+    let larger = lines_over(alloc, 5, 4)?;
     let point = one(alloc, 4)?;
     let rows = truncate_two(
         alloc, 4, 3, 7, 4, 1, &master, &small, &large, &larger, &large, &point,
@@ -86,12 +92,10 @@ fn two_truncated_groups(rt: HostRuntime) -> Result<(), Fail> {
 #[test]
 fn two_groups_of_four_points(rt: HostRuntime) -> Result<(), Fail> {
     let alloc = rt.alloc();
-    let fields = Fields::open(alloc)?;
-    let four = fields.field(4).ok_or("no field")?;
-    let master = field_td(alloc, four, 5)?;
-    let small = field_td(alloc, fields.field(2).ok_or("no field")?, 3)?;
-    let large = field_td(alloc, fields.field(3).ok_or("no field")?, 3)?;
-    let larger = field_td(alloc, four, 3)?;
+    let master = lines_over(alloc, 4, 5)?;
+    let small = lines_over(alloc, 2, 3)?;
+    let large = lines_over(alloc, 3, 3)?;
+    let larger = lines_over(alloc, 4, 3)?;
     let point = one(alloc, 3)?;
     let rows = truncate_two(
         alloc, 3, 2, 4, 2, 1, &master, &small, &large, &larger, &small, &point,

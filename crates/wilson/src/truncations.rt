@@ -6,12 +6,12 @@ ghost use Rattle.wilson.specs.Conditions.{CanTruncateOnce, CanTruncateTwice};
 ghost use Rattle.wilson.specs.Truncations.{wilson_one_blocks, wilson_two_blocks};
 
 use crate::disjoint::disjoint_from_first;
-use crate::filling::{push_fills_one, push_fills_two, push_raised};
-use crate::holes::{holed, holed_twice, symbol_rows};
+use crate::filling::{push_fills_one, push_fills_two};
+use crate::holes::{holed, holed_twice};
 use design_base::Memory;
-use incidence::Rows;
+use incidence::{Rows, array_of_td};
 use std::alloc::Global;
-use transversal::with_room;
+use transversal::{push_raised, with_room};
 
 /// The transversal design of `k` groups of `m * t + u` points, made from a master of `k + 1` groups of `t` points, whose last
 /// group is truncated to `u` points, and from designs of `k` groups of `m`, `m + 1` and `u` points: `small`, `large` and
@@ -36,13 +36,13 @@ pub fn truncate_one(
     ensures design { IfOk result (λ rows. IsTd rows k (m * t + u)) }
 {
     let n = m * t + u;
-    let master = symbol_rows(alloc, k + 1, t, master)?;
-    let small = symbol_rows(alloc, k, m, small)?;
-    let large = symbol_rows(alloc, k, m + 1, large)?;
-    let large = holed(alloc, k, m, &large)?;
-    let rest = symbol_rows(alloc, k, u, rest)?;
+    let master = array_of_td(alloc, k + 1, t, master)?;
+    let small = array_of_td(alloc, k, m, small)?;
+    let large = array_of_td(alloc, k, m + 1, large)?;
+    let holed_large = holed(alloc, k, m, &large)?;
+    let rest = array_of_td(alloc, k, u, rest)?;
     let mut rows = with_room(alloc, k, n)?;
-    push_fills_one(&mut rows, k, m, t, u, &small, &large, &master)?;
+    push_fills_one(&mut rows, k, m, t, u, &small, &holed_large, &master)?;
     push_raised(&mut rows, k, n, m * t, u, &rest)?;
     let blocks = rows.canonical()?;
     Ok(blocks)
@@ -75,16 +75,27 @@ pub fn truncate_two(
 {
     let n = m * t + u + w;
     let apart = disjoint_from_first(larger).unwrap();
-    let master = symbol_rows(alloc, k + 2, t, master)?;
-    let small = symbol_rows(alloc, k, m, small)?;
-    let large = symbol_rows(alloc, k, m + 1, large)?;
-    let large = holed(alloc, k, m, &large)?;
-    let larger = symbol_rows(alloc, k, m + 2, larger)?;
-    let larger = holed_twice(alloc, k, m, apart, &larger)?;
-    let first = symbol_rows(alloc, k, u, first_rest)?;
-    let second = symbol_rows(alloc, k, w, second_rest)?;
+    let master = array_of_td(alloc, k + 2, t, master)?;
+    let small = array_of_td(alloc, k, m, small)?;
+    let large = array_of_td(alloc, k, m + 1, large)?;
+    let holed_large = holed(alloc, k, m, &large)?;
+    let larger = array_of_td(alloc, k, m + 2, larger)?;
+    let holed_larger = holed_twice(alloc, k, m, apart, &larger)?;
+    let first = array_of_td(alloc, k, u, first_rest)?;
+    let second = array_of_td(alloc, k, w, second_rest)?;
     let mut rows = with_room(alloc, k, n)?;
-    push_fills_two(&mut rows, k, m, t, u, w, &small, &large, &larger, &master)?;
+    push_fills_two(
+        &mut rows,
+        k,
+        m,
+        t,
+        u,
+        w,
+        &small,
+        &holed_large,
+        &holed_larger,
+        &master,
+    )?;
     push_raised(&mut rows, k, n, m * t, u, &first)?;
     push_raised(&mut rows, k, n, m * t + u, w, &second)?;
     let blocks = rows.canonical()?;

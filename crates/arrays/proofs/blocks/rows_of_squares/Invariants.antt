@@ -7,6 +7,6 @@ use Rattle.arrays.proofs.blocks.rows_of_squares.Given as goal
 
 abbrev pub invariant-loop-x : goal.invariant-loop-x
 invariant-loop-x l = record {
-  rows : l.rows ≡ join_below l.x (λ x. list_below l.n (row_of_cell l.m l.n l.lines x));
+  rows : l.rows ≡ join_below l.x (λ x. list_below l.n (row_of_cell l.m l.n l.squares x));
   size : size_of l.rows ≡ l.x * (l.n * (l.m + 3));
 }

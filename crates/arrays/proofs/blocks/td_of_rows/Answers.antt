@@ -8,8 +8,8 @@ use Rattle.arrays.proofs.Passages.{td_iff_oa}
 use Rattle.arrays.proofs.Shapes.{rows_from_none}
 use Rattle.arrays.proofs.blocks.td_of_rows.Goals as goal
 
-pub blocks_of-requires-clause-rows : goal.blocks_of-requires-clause-rows
-blocks_of-requires-clause-rows c =
+pub canonical_blocks-requires-clause-rows : goal.canonical_blocks-requires-clause-rows
+canonical_blocks-requires-clause-rows c =
     rows_from_none c.args.k c.args.n c.args.rows.now
     (ap (bad_row c.args.k c.args.n) (sym (ap (λ wanted. take wanted c.args.rows.now) c.len.ensures.len ∙ take-length c.args.rows.now)) ∙ sym c.in_default.ensures)
 

@@ -19,23 +19,23 @@ pub rows_of_squares-requires-clause-small : goal.rows_of_squares-requires-clause
 rows_of_squares-requires-clause-small c = let b = td_bounds c.args.k c.args.n c.requires in (omega (arith, b.few), b.small)
 
 pub rows_of_squares-requires-clause-count : goal.rows_of_squares-requires-clause-count
-rows_of_squares-requires-clause-count c = (squares_from_none (c.args.k - 2) c.args.n c.args.lines.now (sym c.in_default.ensures)).0
+rows_of_squares-requires-clause-count c = (squares_from_none (c.args.k - 2) c.args.n c.args.squares.now (sym c.in_default.ensures)).0
 
 pub rows_of_squares-requires-clause-shape : goal.rows_of_squares-requires-clause-shape
-rows_of_squares-requires-clause-shape c = (squares_from_none (c.args.k - 2) c.args.n c.args.lines.now (sym c.in_default.ensures)).1
+rows_of_squares-requires-clause-shape c = (squares_from_none (c.args.k - 2) c.args.n c.args.squares.now (sym c.in_default.ensures)).1
 
-pub blocks_of-requires-clause-rows : goal.blocks_of-requires-clause-rows
-blocks_of-requires-clause-rows c =
+pub canonical_blocks-requires-clause-rows : goal.canonical_blocks-requires-clause-rows
+canonical_blocks-requires-clause-rows c =
     let b = td_bounds c.args.k c.args.n c.requires in
     let columns : c.args.k ≡ c.args.k - 2 + 2 = omega (arith, b.two) in
-    let shape = squares_from_none (c.args.k - 2) c.args.n c.args.lines.now (sym c.in_default.ensures) in
-    subst (All (IsRow c.args.k c.args.n)) (sym c.in_ok-rows.ensures) (rows_are c.args.k (c.args.k - 2) c.args.n c.args.lines.now columns shape.0 shape.1)
+    let shape = squares_from_none (c.args.k - 2) c.args.n c.args.squares.now (sym c.in_default.ensures) in
+    subst (All (IsRow c.args.k c.args.n)) (sym c.in_ok-rows.ensures) (rows_are c.args.k (c.args.k - 2) c.args.n c.args.squares.now columns shape.0 shape.1)
 
 pub returns-clause-design : goal.returns-clause-design
 returns-clause-design c =
     let b = td_bounds c.args.k c.args.n c.requires in
     let columns : c.args.k ≡ c.args.k - 2 + 2 = omega (arith, b.two) in
-    let shape = squares_from_none (c.args.k - 2) c.args.n c.args.lines.now (sym c.in_default.ensures) in
-    subst (λ td. IsTd td c.args.k c.args.n ↔ IsMols c.args.lines.now c.args.n (c.args.k - 2))
+    let shape = squares_from_none (c.args.k - 2) c.args.n c.args.squares.now (sym c.in_default.ensures) in
+    subst (λ td. IsTd td c.args.k c.args.n ↔ IsMols c.args.squares.now c.args.n (c.args.k - 2))
     (sym (c.in_ok-td.ensures ∙ ap (λ R. canonical (blocks_of_rows c.args.k c.args.n R)) c.in_ok-rows.ensures))
-    (td_iff_mols c.args.k (c.args.k - 2) c.args.n c.args.lines.now columns shape.0 shape.1 b.positive)
+    (td_iff_mols c.args.k (c.args.k - 2) c.args.n c.args.squares.now columns shape.0 shape.1 b.positive)

@@ -12,7 +12,7 @@ pub overflow_sub-s-end : goal.overflow_sub-s-end
 overflow_sub-s-end c = (td_bounds c.args.k c.args.n c.requires.bounds).two
 
 pub loop-s-init : goal.loop-s-init
-loop-s-init c = record { lines = c.new-lines.ensures ∙ sym (join_below_none (λ s. square_of_column c.args.n (rows_of_td c.args.n c.args.td.now) (s + 2))); size = omega (arith, ap size_of c.new-lines.ensures) }
+loop-s-init c = record { squares = c.new-squares.ensures ∙ sym (join_below_none (λ s. square_of_column c.args.n (rows_of_td c.args.n c.args.td.now) (s + 2))); size = omega (arith, ap size_of c.new-squares.ensures) }
 
 pub push_square-requires-clause-room : goal.push_square-requires-clause-room
 push_square-requires-clause-room c =
@@ -21,8 +21,8 @@ push_square-requires-clause-room c =
 
 pub loop-s-preserved : goal.loop-s-preserved
 loop-s-preserved c = record {
-  lines = c.in_ok-push_square.ensures.ok
-      ∙ ap₂ (λ lines R. lines ++ square_of_column c.args.n R (c.loop-s.s + 2)) c.loop-s.invariant.lines c.in_ok-rows.ensures.rows
+  squares = c.in_ok-push_square.ensures.ok
+      ∙ ap₂ (λ squares R. squares ++ square_of_column c.args.n R (c.loop-s.s + 2)) c.loop-s.invariant.squares c.in_ok-rows.ensures.rows
       ∙ sym (join_below_more c.loop-s.s (λ s. square_of_column c.args.n (rows_of_td c.args.n c.args.td.now) (s + 2)));
   size = omega (arith, c.in_ok-push_square.ensures.size, c.loop-s.invariant.size);
 }
@@ -30,9 +30,9 @@ loop-s-preserved c = record {
 pub returns-clause-squares : goal.returns-clause-squares
 returns-clause-squares c =
     let all : c.loop-s.s ≡ c.args.k - 2 = omega arith in
-    c.loop-s.invariant.lines
+    c.loop-s.invariant.squares
     ∙ ap (λ m. join_below m (λ s. square_of_column c.args.n (rows_of_td c.args.n c.args.td.now) (s + 2))) all
     ∙ squares c.args.k c.args.n c.args.td.now (td_bounds c.args.k c.args.n c.requires.bounds) c.requires.td
 
 pub returns-clause-mols : goal.returns-clause-mols
-returns-clause-mols c = subst (λ lines. IsMols lines c.args.n (c.args.k - 2)) (sym (returns-clause-squares c)) (mols c.args.k c.args.n c.args.td.now (td_bounds c.args.k c.args.n c.requires.bounds) c.requires.td)
+returns-clause-mols c = subst (λ squares. IsMols squares c.args.n (c.args.k - 2)) (sym (returns-clause-squares c)) (mols c.args.k c.args.n c.args.td.now (td_bounds c.args.k c.args.n c.requires.bounds) c.requires.td)

@@ -7,6 +7,6 @@ use Rattle.arrays.proofs.rows.squares_of_td.Given as goal
 
 abbrev pub invariant-loop-s : goal.invariant-loop-s
 invariant-loop-s l = record {
-  lines : l.lines ≡ join_below l.s (λ s. square_of_column l.n (rows_of_td l.n l.td) (s + 2));
-  size : size_of l.lines ≡ l.s * (l.n * (l.n + 1));
+  squares : l.squares ≡ join_below l.s (λ s. square_of_column l.n (rows_of_td l.n l.td) (s + 2));
+  size : size_of l.squares ≡ l.s * (l.n * (l.n + 1));
 }

@@ -1,17 +1,14 @@
 use Rattle.std.proofs.Common.{ap, arith, subst, sym, ◌+◌, ◌*◌}
 use Rattle.design_base.specs.Blocks.{IsTd}
 use Rattle.incidence.specs.Packed.{size_of}
-use Rattle.transversal.proofs.Designs.{parker_design, parker_room, sizes_of_td}
+use Rattle.transversal.proofs.Designs.{few_rows, parker_design}
 use Rattle.transversal.proofs.Steps.{steps}
 use Rattle.transversal.proofs.differences.parker.Goals as goal
 
-pub push_raised-requires-clause-inner_sizes : goal.push_raised-requires-clause-inner_sizes
-push_raised-requires-clause-inner_sizes c = sizes_of_td 4 c.args.m c.args.inner.now c.requires.inner
-
 pub push_raised-requires-clause-room : goal.push_raised-requires-clause-room
 push_raised-requires-clause-room c =
-    let few = parker_room c.args.m c.args.inner.now c.requires in
-    omega (arith, few, c.requires.points, c.in_ok-push_turned.ensures.size, ap size_of c.in_ok-rows.ensures)
+    let few = few_rows 4 c.args.m c.in_ok-inner.inner (omega (arith, c.requires.points)) c.in_ok-inner.ensures.array in
+    omega (arith, few, c.requires.points, c.in_ok-push_translates.ensures.size, ap size_of c.in_ok-rows.ensures)
 
 pub returns-clause-blocks : goal.returns-clause-blocks
 returns-clause-blocks c = grind (arith, steps)

@@ -1,16 +1,20 @@
-use Rattle.std.proofs.Common.{arith, length}
-use Rattle.transversal.proofs.Steps.{length_after, sizes_after, steps}
+use Rattle.std.proofs.Common.{arith, ◌*◌}
+use Rattle.design_base.specs.Arrays.{IsRow}
+use Rattle.incidence.proofs.RowsAndBlocks.{left_after, room_next}
+use Rattle.transversal.proofs.Steps.{steps}
 use Rattle.transversal.proofs.products.push_products.Goals as goal
+use Rattle.transversal.specs.Constructions.{product_rows, products_of}
 
 pub push_products_of-requires-clause-room : goal.push_products_of-requires-clause-room
-push_products_of-requires-clause-room c = let rows = length_after c.loop-block.block-iterator c.in-Some.block.now c.next.new.self (length c.args.second.now) (grind arith) in grind arith
+push_products_of-requires-clause-room c = omega (
+  arith,
+  room_next c.args.k (c.args.a * c.args.b) c.loop-row.rows c.args.rows.now (products_of c.args.k c.args.b c.args.second.now c.in-Some.row.now)
+      (product_rows c.args.k c.args.b c.next.new.self c.args.second.now) (product_rows c.args.k c.args.b c.args.first.now c.args.second.now) (grind (arith, steps)),
+  c.requires.room,
+)
 
-pub loop-block-preserved : goal.loop-block-preserved
-loop-block-preserved c = record {
-  rows = grind (arith, steps);
-  sizes = sizes_after c.args.k c.loop-block.block-iterator c.in-Some.block.now c.next.new.self (grind arith) c.loop-block.invariant.sizes;
-  room = let rows = length_after c.loop-block.block-iterator c.in-Some.block.now c.next.new.self (length c.args.second.now) (grind arith) in grind arith;
+pub loop-row-preserved : goal.loop-row-preserved
+loop-row-preserved c = record {
+  blocks = grind (arith, steps);
+  left = left_after (IsRow c.args.k c.args.a) c.loop-row.row-iterator c.in-Some.row.now c.next.new.self (grind arith) c.loop-row.invariant.left;
 }
-
-pub returns : goal.returns
-returns c = grind (arith, steps)

@@ -1,13 +1,20 @@
-use Rattle.std.proofs.Common.{arith}
-use Rattle.transversal.proofs.Steps.{sizes_after, steps}
+use Rattle.std.proofs.Common.{[], arith, ◌*◌, ◌∷◌}
+use Rattle.design_base.specs.Arrays.{IsRow}
+use Rattle.incidence.proofs.RowsAndBlocks.{left_after, room_next}
+use Rattle.transversal.proofs.Steps.{steps}
 use Rattle.transversal.proofs.products.push_products_of.Goals as goal
+use Rattle.transversal.specs.Constructions.{product_row, products_of}
 
-pub loop-block-preserved : goal.loop-block-preserved
-loop-block-preserved c = record {
-  rows = grind (arith, steps);
-  sizes = sizes_after c.args.k c.loop-block.block-iterator c.in-Some.block.now c.next.new.self (grind arith) c.loop-block.invariant.sizes;
-  room = grind arith;
+pub push_product-requires-clause-room : goal.push_product-requires-clause-room
+push_product-requires-clause-room c = omega (
+  arith,
+  room_next c.args.k (c.args.a * c.args.b) c.loop-row.rows c.args.rows.now (product_row c.args.k c.args.b c.args.first.now c.in-Some.row.now ∷ [])
+      (products_of c.args.k c.args.b c.next.new.self c.args.first.now) (products_of c.args.k c.args.b c.args.second.now c.args.first.now) (grind (arith, steps)),
+  c.requires.room,
+)
+
+pub loop-row-preserved : goal.loop-row-preserved
+loop-row-preserved c = record {
+  blocks = grind (arith, steps);
+  left = left_after (IsRow c.args.k c.args.b) c.loop-row.row-iterator c.in-Some.row.now c.next.new.self (grind arith) c.loop-row.invariant.left;
 }
-
-pub returns-clause-ok : goal.returns-clause-ok
-returns-clause-ok c = grind (arith, steps)

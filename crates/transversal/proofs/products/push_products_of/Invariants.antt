@@ -1,15 +1,12 @@
 -- What is there and what the rows that are left will give is what all rows give.
-use Rattle.std.proofs.Common.{length, ◌*◌, ◌++◌, ◌+◌, ◌≡◌, ◌≤◌}
-use Rattle.design_base.specs.Arrays.{blocks_of_rows, rows_of_blocks}
-use Rattle.design_base.specs.declared.limits.TheConstants.{TD_K_MAX}
-use Rattle.incidence.specs.Packed.{size_of}
+use Rattle.std.proofs.Common.{◌*◌, ◌++◌, ◌≡◌}
+use Rattle.std.specs.Prelude.{All}
+use Rattle.design_base.specs.Arrays.{IsRow, blocks_of_rows}
 use Rattle.transversal.proofs.products.push_products_of.Given as goal
-use Rattle.transversal.specs.Constructions.{AllOfSize, products_of, row_of_block}
+use Rattle.transversal.specs.Constructions.{products_of}
 
-abbrev pub invariant-loop-block : goal.invariant-loop-block
-invariant-loop-block l = record {
-  rows : l.rows ++ blocks_of_rows l.k (l.a * l.b) (products_of l.k l.b (rows_of_blocks l.b l.block-iterator) (row_of_block l.a l.first))
-      ≡ l.fn.rows ++ blocks_of_rows l.k (l.a * l.b) (products_of l.k l.b (rows_of_blocks l.b l.second) (row_of_block l.a l.first));
-  sizes : AllOfSize l.k l.block-iterator;
-  room : size_of l.rows + (TD_K_MAX + 1) * length l.block-iterator ≤ size_of l.fn.rows + (TD_K_MAX + 1) * length l.second;
+abbrev pub invariant-loop-row : goal.invariant-loop-row
+invariant-loop-row l = record {
+  blocks : l.rows ++ blocks_of_rows l.k (l.a * l.b) (products_of l.k l.b l.row-iterator l.first) ≡ l.fn.rows ++ blocks_of_rows l.k (l.a * l.b) (products_of l.k l.b l.second l.first);
+  left : All (IsRow l.k l.b) l.row-iterator;
 }

@@ -1,10 +1,8 @@
 -- What is there and what the master rows that are left will give is what all master rows give.
-use Rattle.std.proofs.Common.{length, ◌*◌, ◌++◌, ◌+◌, ◌≡◌, ◌≤◌}
+use Rattle.std.proofs.Common.{◌*◌, ◌++◌, ◌+◌, ◌≡◌}
 use Rattle.std.specs.List.{flat_map}
 use Rattle.std.specs.Prelude.{All}
 use Rattle.design_base.specs.Arrays.{IsRow, blocks_of_rows}
-use Rattle.design_base.specs.declared.limits.TheConstants.{TD_K_MAX, TD_N_MAX}
-use Rattle.incidence.specs.Packed.{size_of}
 use Rattle.wilson.proofs.filling.push_fills_two.Given as goal
 use Rattle.wilson.specs.Truncations.{fill_two}
 
@@ -13,5 +11,4 @@ invariant-loop-row l = record {
   blocks : l.rows ++ blocks_of_rows l.k (l.m * l.t + l.u + l.w) (flat_map (fill_two l.k l.m l.t l.u l.w l.small l.large l.larger) l.row-iterator)
       ≡ l.fn.rows ++ blocks_of_rows l.k (l.m * l.t + l.u + l.w) (flat_map (fill_two l.k l.m l.t l.u l.w l.small l.large l.larger) l.master);
   left : All (IsRow (l.k + 2) l.t) l.row-iterator;
-  room : size_of l.rows + (TD_K_MAX + 1) * TD_N_MAX * TD_N_MAX * length l.row-iterator ≤ size_of l.fn.rows + (TD_K_MAX + 1) * TD_N_MAX * TD_N_MAX * length l.master;
 }

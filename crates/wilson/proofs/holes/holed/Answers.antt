@@ -1,5 +1,5 @@
 use Rattle.std.proofs.Common.{arith, ◌∙◌}
-use Rattle.wilson.proofs.Designs.{holed_few, holed_rows}
+use Rattle.wilson.proofs.Designs.{holed_rows}
 use Rattle.wilson.proofs.Steps.{holed_all, holed_next}
 use Rattle.wilson.proofs.holes.holed.Goals as goal
 
@@ -13,6 +13,3 @@ loop-i-preserved c = record {
 
 pub returns-clause-rows : goal.returns-clause-rows
 returns-clause-rows c = holed_rows c.args.k c.args.m c.args.array.now c.loop-i.rows c.requires.array (c.loop-i.invariant.rows ∙ holed_all c.args.k c.args.m c.args.array.now c.loop-i.i (omega arith))
-
-pub returns-clause-few : goal.returns-clause-few
-returns-clause-few c = holed_few c.args.k c.args.m c.args.array.now c.loop-i.rows c.requires.array (c.loop-i.invariant.rows ∙ holed_all c.args.k c.args.m c.args.array.now c.loop-i.i (omega arith)) c.requires.points

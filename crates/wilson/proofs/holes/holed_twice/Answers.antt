@@ -1,5 +1,6 @@
 use Rattle.std.proofs.Common.{◌+◌}
-use Rattle.wilson.proofs.Designs.{apart_differs, apart_second, apart_within, few_rows, holed_twice_few, holed_twice_rows, holed_twice_without}
+use Rattle.transversal.proofs.Designs.{few_rows}
+use Rattle.wilson.proofs.Designs.{apart_differs, apart_second, apart_within, holed_twice_rows, holed_twice_without}
 use Rattle.wilson.proofs.holes.holed_twice.Goals as goal
 
 pub without_two-requires-clause-second : goal.without_two-requires-clause-second
@@ -19,6 +20,3 @@ returns-clause-without c = holed_twice_without c.args.k c.args.m c.args.e c.args
 
 pub returns-clause-rows : goal.returns-clause-rows
 returns-clause-rows c = holed_twice_rows c.args.k c.args.m c.args.e c.args.array.now c.requires.two_groups c.requires.few_groups c.requires.array c.requires.apart c.in_ok-rows.rows c.in_ok-rows.ensures
-
-pub returns-clause-few : goal.returns-clause-few
-returns-clause-few c = holed_twice_few c.args.k c.args.m c.args.e c.args.array.now c.requires.two_groups c.requires.few_groups c.requires.array c.requires.apart c.in_ok-rows.rows c.in_ok-rows.ensures c.requires.points
