@@ -1,23 +1,21 @@
 -- Small values of the definitions, computed.
-use Rattle.std.proofs.Common.{◌≡◌, ℕ, List, [], ◌∷◌, true, false, refl}
-use Rattle.std.specs.Prelude.{sum_by}
+use Rattle.std.proofs.Common.{◌≡◌, [], ◌∷◌, refl}
 use Rattle.counting.specs.Search.{first_in, each_passes}
 use Rattle.counting.specs.Sums.{join_below}
 use Rattle.criteria.specs.Criteria.{reasons, reason_of}
 use Rattle.design_base.specs.Fields.{shapes, shape_of}
 use Rattle.design_base.specs.Limits.{in_bounds}
-use Rattle.design_base.specs.declared.query.Query.{Query}
 use Rattle.design_base.specs.declared.query.Query.TheVariants.{Td}
-use Rattle.design_base.specs.declared.rule.Rule.TheVariants.{Cyclic, Field, Product, Parker, Wilson1, Wilson2}
+use Rattle.design_base.specs.declared.rule.Rule.TheVariants.{Product, Parker, Wilson1, Wilson2}
 use Rattle.design_base.specs.declared.verdict.Criterion.TheVariants.{Groups}
 use Rattle.design_base.specs.declared.verdict.Verdict.TheVariants.{Yes, No, Unknown}
-use Rattle.design_base.specs.Steps.{Step, step}
+use Rattle.design_base.specs.Steps.{step}
 use Rattle.rule_table.specs.Asked.{asked, asked_by, asked_through}
-use Rattle.rule_table.specs.Candidates.{candidates, is_candidate, premises}
+use Rattle.rule_table.specs.Candidates.{candidates, premises}
 use Rattle.rule_table.specs.Rank.{rank}
 use Rattle.rule_table.specs.Table.{terms}
 use Rattle.rule_table.specs.TdTerms.{td_terms}
-use Rattle.rule_table.specs.Terms.{choices, allows, premises_at}
+use Rattle.rule_table.specs.Terms.{choices, premises_at}
 use Rattle.rule_table.specs.Verdicts.{judged, verdict, verdict_below}
 use Rattle.rule_table.specs.Work.{work, work_below}
 
@@ -32,7 +30,6 @@ candidates_of_eighteen : candidates (Td 4 18) ≡
     step Wilson2 2 7 2 2 ∷ step Wilson2 2 7 3 1 ∷ step Wilson2 2 8 1 1 ∷ step Wilson2 3 5 2 1 ∷ []
 unfolding candidates terms td_terms choices in_bounds join_below first_in shapes shape_of
 candidates_of_eighteen = refl
-
 
 premises_of_eighteen : premises (Td 4 18) (step Wilson1 3 5 3 0) ≡ Td 5 5 ∷ Td 4 3 ∷ Td 4 4 ∷ Td 4 3 ∷ []
 unfolding premises terms td_terms premises_at

@@ -16,10 +16,10 @@ IsNext (from low to high take f) (Parameter least most) = (least ≡ low) × (mo
 IsNext (from low to high take f) (Premises list) = ⊥
 IsNext (from low to high take f) Nothing = ⊥
 
--- a parameter is one that the rule has and stays within the limit; with premises, which are few, no parameter is left
+-- a parameter is one that the rule has and stays within the limit; premises are few
 abbrev pub IsFitting : Rule → List ℕ → Next → Type 0
 IsFitting r xs (Parameter low high) = (length xs < (title r).parameters) × (high ≤ PARAMETER_MAX)
-IsFitting r xs (Premises list) = ((title r).parameters ≤ length xs) × (length list.items ≤ PREMISES_MAX)
+IsFitting r xs (Premises list) = length list.items ≤ PREMISES_MAX
 IsFitting r xs Nothing = Unit {0}
 
 -- there are few premises, and no parameter

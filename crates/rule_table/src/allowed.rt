@@ -9,7 +9,7 @@ ghost use Rattle.rule_table.specs.Takens.{listed, IsSmall};
 ghost use Rattle.rule_table.specs.Terms.{allows, premises_at};
 ghost use Rattle.rule_table.specs.Walks.{terms_at};
 
-use crate::next::{Next, Premises};
+use crate::next::Next;
 use crate::table::next_of;
 use crate::taken::Taken;
 use crate::tools::Tools;
@@ -44,7 +44,8 @@ fn is_allowed(tools: &Tools, q: &Query, rule: Rule, taken: Taken, rest: &[u16]) 
     }
 }
 
-/// Whether the step is a candidate of the question, which is in bounds.
+/// Whether the step is a candidate of the question, which is in bounds: its rule serves questions of that kind, and the table allows its
+/// parameters. Takes no memory.
 #[tactic(auto, using(crate::proofs::Members::candidate_laws))]
 pub fn is_candidate(tools: &Tools, q: &Query, step: &Step) -> bool
     requires { in_bounds q.now ≡ true }
@@ -57,7 +58,13 @@ pub fn is_candidate(tools: &Tools, q: &Query, step: &Step) -> bool
 
 // The premises at the rest of the parameters, which the table allows.
 #[tactic(auto, using(crate::proofs::Members::premises_behind_laws))]
-fn premises_behind(tools: &Tools, q: &Query, rule: Rule, taken: Taken, rest: &[u16]) -> Premises
+fn premises_behind(
+    tools: &Tools,
+    q: &Query,
+    rule: Rule,
+    taken: Taken,
+    rest: &[u16],
+) -> SmallVec<Query, 8>
     requires bounds { in_bounds q.now ≡ true }
     requires small { IsSmall taken }
     requires count { length (listed taken) ≤ (title rule).parameters }
@@ -76,9 +83,10 @@ fn premises_behind(tools: &Tools, q: &Query, rule: Rule, taken: Taken, rest: &[u
     }
 }
 
-/// The questions on which a candidate rests, in order. The question is in bounds, and the step is one of its candidates.
+/// The questions on which a candidate rests, in order. The question is in bounds, and the step is one of its candidates. They are at most
+/// `PREMISES_MAX`, and the list takes no memory.
 #[tactic(auto, using(crate::proofs::Members::premises_laws))]
-pub fn premises(tools: &Tools, q: &Query, step: &Step) -> Premises
+pub fn premises(tools: &Tools, q: &Query, step: &Step) -> SmallVec<Query, 8>
     requires bounds { in_bounds q.now ≡ true }
     requires candidate { is_candidate_of q.now step.now ≡ true }
     ensures items { result.items ≡ premises_of q.now step.now }

@@ -8,7 +8,8 @@ use crate::walk::{first_of_rules, following};
 use design_base::{Query, Step};
 use std::marker::Model;
 
-/// The candidates of a question that are left, in the order of the table: by the number of the rule and then by the parameters.
+/// The candidates of a question that are left, in the order of the table: by the number of the rule and then by the parameters. It keeps
+/// the next one and no list, and takes no memory.
 #[derive(Drop)]
 pub struct Candidates<'a> {
     tools: &'a Tools,

@@ -15,10 +15,10 @@ use criteria::criterion;
 use design_base::{Criterion, Query, Step, Verdict};
 use std::marker::Model;
 
-/// A walk through the candidates of a question in order, and through the premises of each up to the first that is not Yes. It
-/// counts no steps: an `Evaluation` is an inquiry that was counted when it began.
+// A walk through the candidates of a question in order, and through the premises of each up to the first that is not Yes. It
+// counts no steps: an `Evaluation` is an inquiry that was counted when it began.
 #[derive(Drop)]
-pub struct Inquiry<'a> {
+pub(crate) struct Inquiry<'a> {
     tools: &'a Tools,
     question: Query,
     criterion: Option<Criterion>,
@@ -37,8 +37,8 @@ impl<'a> Model for Inquiry<'a> {
 }
 
 impl<'a> Inquiry<'a> {
-    /// The inquiry into a question before any answer. The question is in bounds.
-    pub fn new(q: &Query, tools: &'a Tools) -> Inquiry<'a>
+    // The inquiry into a question before any answer. The question is in bounds.
+    pub(crate) fn new(q: &Query, tools: &'a Tools) -> Inquiry<'a>
         requires bounds { in_bounds q.now ≡ true }
         ensures question { result.question ≡ q.now }
         ensures begun { result.answered ≡ [] }
@@ -61,9 +61,9 @@ impl<'a> Inquiry<'a> {
         }
     }
 
-    /// The premise that is asked for next, which is in bounds and has a smaller rank than the question, or the verdict where
-    /// all that are asked for were answered.
-    pub fn turn(&self) -> Turn
+    // The premise that is asked for next, which is in bounds and has a smaller rank than the question, or the verdict where
+    // all that are asked for were answered.
+    pub(crate) fn turn(&self) -> Turn
         ensures bounds { IfAsk result (λ p. in_bounds p ≡ true) }
         ensures smaller { IfAsk result (λ p. rank p < rank self.now.question) }
         ensures left { IfAsk result (λ p. 0 < self.now.left) }
@@ -84,9 +84,9 @@ impl<'a> Inquiry<'a> {
         }
     }
 
-    /// Takes the verdict of the premise that `turn` asks for: on Yes the next premise of the candidate comes, on No or Unknown
-    /// the first of the next candidate.
-    pub fn answer(&mut self, told: &Verdict)
+    // Takes the verdict of the premise that `turn` asks for: on Yes the next premise of the candidate comes, on No or Unknown
+    // the first of the next candidate.
+    pub(crate) fn answer(&mut self, told: &Verdict)
         requires told { TellsNext self.old told.now }
         ensures { (p : Question) → AsksNext self.old p → self.new ≡ answered_next self.old p }
     {

@@ -20,8 +20,6 @@ pub use allowed::{is_candidate, premises};
 pub use asker::{Asker, PlainAsker};
 pub use candidates::Candidates;
 pub use evaluation::Evaluation;
-pub use inquiry::Inquiry;
-pub use next::Premises;
 pub use steps::Steps;
 pub use tools::Tools;
 pub use turn::Turn;

@@ -7,8 +7,8 @@ use design_base::Query;
 use smallvec::SmallVec;
 use std::alloc::Global;
 
-/// The questions on which a step rests, at most PREMISES_MAX, which take no memory.
-pub type Premises = SmallVec<Query, 8>;
+// The questions on which a step rests, at most PREMISES_MAX, which take no memory.
+pub(crate) type Premises = SmallVec<Query, 8>;
 
 // What the table says of a rule behind the parameters taken so far.
 #[derive(Drop)]

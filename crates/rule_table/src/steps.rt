@@ -3,7 +3,8 @@ ghost use Rattle.std.specs.Prelude.{◌≡◌, ◌+◌, ◌<◌};
 use std::marker::Model;
 use std::sync::ledger::{Blank, Book, Ledger, Share};
 
-/// How many evaluations were begun. The counter takes no bytes, and only `tick` changes it.
+/// How many evaluations were begun, from 0 on and without a limit: a count that clauses speak of, and that no code can read. It takes no
+/// bytes and no memory.
 #[derive(Drop)]
 pub struct Steps<L: Ledger> {
     book: Book<L>,
@@ -32,8 +33,8 @@ impl<L: Ledger> Steps<L> {
         Steps { book, share }
     }
 
-    /// Counts one more.
-    pub fn tick(&mut self)
+    // Counts one more.
+    pub(crate) fn tick(&mut self)
         ensures { self.new ≡ self.old + 1 }
     {
         self.book.add(&mut self.share, 1);
