@@ -1,3 +1,4 @@
+pub mod BibdRules
 pub mod Bounds
 pub mod Chosen
 pub mod Each
@@ -6,6 +7,7 @@ pub mod Followed
 pub mod Grounded
 pub mod Members
 pub mod Passing
+pub mod PointCounts
 pub mod Rules
 mod Samples
 pub mod Spelled

@@ -1,5 +1,6 @@
 pub mod Terms
 pub mod TdTerms
+pub mod BibdTerms
 pub mod Table
 pub mod Candidates
 pub mod Rank

@@ -3,10 +3,12 @@
 
 mod allowed;
 mod asker;
+mod bibd;
 mod candidates;
 mod evaluation;
 mod inquiry;
 mod next;
+mod sizes;
 mod steps;
 mod table;
 mod taken;
