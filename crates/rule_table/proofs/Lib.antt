@@ -8,8 +8,10 @@ pub mod Grounded
 pub mod Members
 pub mod Passing
 pub mod PointCounts
+pub mod Proved
 pub mod Rules
 mod Samples
+pub mod Settled
 pub mod Spelled
 pub mod TdRules
 pub mod Told

@@ -5,6 +5,7 @@ pub mod Table
 pub mod Candidates
 pub mod Rank
 pub mod Verdicts
+pub mod Decided
 pub mod Asked
 pub mod Work
 pub mod Walks
