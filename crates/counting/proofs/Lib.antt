@@ -4,3 +4,6 @@ pub mod Ranges
 pub mod Sorting
 pub mod Residues
 pub mod OnePlace
+pub mod ButOne
+pub mod Squares
+pub mod Grids

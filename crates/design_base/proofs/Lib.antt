@@ -9,3 +9,4 @@ pub mod Solutions
 pub mod Orders
 pub mod RuleOrder
 pub mod Samples
+pub mod Geometries

@@ -11,3 +11,4 @@ pub mod Rules
 pub mod Steps
 pub mod Meets
 pub mod Cells
+pub mod Geometries

@@ -14,7 +14,7 @@ use Rattle.design_base.specs.declared.rule.Rule.TheVariants.{Bose, Affine, Proje
 use Rattle.design_base.specs.declared.verdict.Verdict.{Verdict}
 use Rattle.design_base.specs.declared.verdict.Verdict.TheVariants.{Yes}
 use Rattle.design_base.specs.Steps.{Step, step}
-use Rattle.spaces.specs.Points.{point_count}
+use Rattle.design_base.specs.Geometries.{point_count}
 use Rattle.triple_systems.proofs.BoseSystem.{bose_design}
 use Rattle.design_cli.proofs.LineDesigns.{listed_affine, listed_projective}
 use Rattle.design_cli.specs.Chosen.{triple_verdict, affine_verdict, projective_verdict, geometry_verdict, dimension_of, chosen, blocks_at}

@@ -15,7 +15,8 @@ use Rattle.spaces.proofs.PointSteps.{places-one, places-push}
 use Rattle.spaces.proofs.VectorSpaces.{space}
 use Rattle.spaces.proofs.WeightSteps.{listed_sum_one, projective-push, slopes-none, slopes-push}
 use Rattle.spaces.specs.Lines.{affine_lines, projective_lines}
-use Rattle.spaces.specs.Points.{AreNumbers, ArePlaces, IsPlace, lead, point_count, points}
+use Rattle.design_base.specs.Geometries.{point_count}
+use Rattle.spaces.specs.Points.{AreNumbers, ArePlaces, IsPlace, lead, points}
 use Rattle.spaces.specs.Vectors.{multiple}
 use Rattle.spaces.specs.Weights.{AreAffine, AreProjective, AreSlopes}
 

@@ -4,8 +4,8 @@ use Rattle.std.proofs.Math.Nat.{mul-le-mul_left, mul-le-mul_right, pow-suc, pow-
 use Rattle.counting.proofs.Counts.{sum_below-none, sum_below-suc}
 use Rattle.counting.specs.Sums.{sum_below}
 use Rattle.design_base.specs.declared.limits.TheConstants.{POINTS_MAX}
-use Rattle.spaces.proofs.Leads.{count_vectors}
-use Rattle.spaces.specs.Points.{point_count}
+use Rattle.design_base.proofs.Geometries.{point_count-suc}
+use Rattle.design_base.specs.Geometries.{point_count}
 use Rattle.design_cli.specs.Chosen.{dimension_among, dimension_of}
 
 -- a product by a number of points
@@ -14,11 +14,6 @@ product_small a q m le few =
     let one : a * q ≤ a * POINTS_MAX = mul-le-mul_left a few in
     let two : a * POINTS_MAX ≤ m * POINTS_MAX = mul-le-mul_right POINTS_MAX le in
     omega (arith, one, two)
-
--- the points of one more dimension
-pub point_count-suc : (q d : ℕ) → point_count q (suc d) ≡ point_count q d * q + 1
-unfolding point_count
-point_count-suc q d = ap (λ n. sum_below n (λ i. q ^ i)) (let e : suc d + 1 ≡ suc (d + 1) = omega arith in e) ∙ sum_below-suc (d + 1) (λ i. q ^ i) ∙ sym (count_vectors q d)
 
 pub point_count-one : (q : ℕ) → point_count q 1 ≡ q + 1
 unfolding point_count

@@ -17,7 +17,7 @@ use Rattle.derivations.specs.Derivations.{derivation, line, replayed}
 use Rattle.derivations.specs.declared.line.Line.{Line}
 use Rattle.rule_table.specs.Verdicts.{verdict}
 use Rattle.spaces.specs.Lines.{affine_lines, projective_lines}
-use Rattle.spaces.specs.Points.{point_count}
+use Rattle.design_base.specs.Geometries.{point_count}
 use Rattle.triple_systems.specs.Bose.{bose_blocks}
 
 -- triple systems: none on an even number of points, and Bose's on 6 t + 3 points with t at least 1

@@ -3,7 +3,7 @@ ghost use Rattle.std.specs.Prelude.{◌≡◌, ◌^◌, ◌≤◌, IfOk, IfSome,
 ghost use Rattle.design_base.specs.Fields.{has_field};
 ghost use Rattle.design_base.specs.declared.limits.TheConstants.{POINTS_MAX};
 ghost use Rattle.spaces.specs.Lines.{affine_lines as affine_lines_of, projective_lines as projective_lines_of};
-ghost use Rattle.spaces.specs.Points.{point_count};
+ghost use Rattle.design_base.specs.Geometries.{point_count};
 ghost use Rattle.design_cli.specs.Chosen.{affine_verdict as verdict_of_affine, dimension_among, dimension_of, geometry_verdict as verdict_of_geometry, projective_verdict as verdict_of_projective};
 
 use design_base::{Memory, Rule, Step, Verdict, is_field_order};

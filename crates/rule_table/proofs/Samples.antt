@@ -2,7 +2,7 @@
 use Rattle.std.proofs.Common.{◌≡◌, [], ◌∷◌, refl}
 use Rattle.counting.specs.Search.{first_in, each_passes}
 use Rattle.counting.specs.Sums.{join_below}
-use Rattle.criteria.specs.Criteria.{reasons, reason_of}
+use Rattle.criteria.specs.Criteria.{comparisons, comparison_of}
 use Rattle.design_base.specs.Fields.{shapes, shape_of}
 use Rattle.design_base.specs.Limits.{in_bounds}
 use Rattle.design_base.specs.declared.query.Query.TheVariants.{Td}
@@ -36,21 +36,21 @@ unfolding premises terms td_terms premises_at
 premises_of_eighteen = refl
 
 verdict_of_six : verdict (Td 4 6) ≡ Unknown
-unfolding verdict verdict_below judged reasons reason_of candidates terms td_terms choices in_bounds join_below premises premises_at first_in each_passes shapes shape_of rank
+unfolding verdict verdict_below judged comparisons comparison_of candidates terms td_terms choices in_bounds join_below premises premises_at first_in each_passes shapes shape_of rank
 verdict_of_six = refl
 
 verdict_of_five_and_two : verdict (Td 5 2) ≡ No Groups
-unfolding verdict verdict_below judged reasons reason_of first_in rank
+unfolding verdict verdict_below judged comparisons comparison_of first_in rank
 verdict_of_five_and_two = refl
 
 verdict_of_eighteen : verdict (Td 4 18) ≡ Yes (step Wilson1 3 5 3 0)
-unfolding verdict verdict_below judged reasons reason_of candidates terms td_terms choices in_bounds join_below premises premises_at first_in each_passes shapes shape_of rank
+unfolding verdict verdict_below judged comparisons comparison_of candidates terms td_terms choices in_bounds join_below premises premises_at first_in each_passes shapes shape_of rank
 verdict_of_eighteen = refl
 
 asked_of_eighteen : asked (Td 4 18) ≡ Td 4 2 ∷ Td 4 3 ∷ Td 4 6 ∷ Td 5 6 ∷ Td 5 7 ∷ Td 4 2 ∷ Td 5 8 ∷ Td 4 2 ∷ Td 5 5 ∷ Td 4 3 ∷ Td 4 4 ∷ Td 4 3 ∷ []
-unfolding asked asked_by asked_through verdict verdict_below judged reasons reason_of candidates terms td_terms choices in_bounds join_below premises premises_at first_in each_passes shapes shape_of rank
+unfolding asked asked_by asked_through verdict verdict_below judged comparisons comparison_of candidates terms td_terms choices in_bounds join_below premises premises_at first_in each_passes shapes shape_of rank
 asked_of_eighteen = refl
 
 work_of_eighteen : work (Td 4 18) ≡ 15
-unfolding work work_below asked asked_by asked_through verdict verdict_below judged reasons reason_of candidates terms td_terms choices in_bounds join_below premises premises_at first_in each_passes shapes shape_of rank
+unfolding work work_below asked asked_by asked_through verdict verdict_below judged comparisons comparison_of candidates terms td_terms choices in_bounds join_below premises premises_at first_in each_passes shapes shape_of rank
 work_of_eighteen = refl

@@ -6,8 +6,8 @@ use Rattle.counting.specs.Sums.{sum_below}
 use Rattle.design_base.specs.Fields.{has_field}
 use Rattle.design_base.specs.declared.limits.TheConstants.{POINTS_MAX}
 use Rattle.field_tables.proofs.Listed.{listed_field}
-use Rattle.spaces.proofs.Leads.{count_vectors}
-use Rattle.spaces.specs.Points.{point_count}
+use Rattle.design_base.proofs.Geometries.{count_vectors}
+use Rattle.design_base.specs.Geometries.{point_count}
 
 powers_many : (q n : ℕ) → 0 < q → n ≤ sum_below n (λ i. q ^ i)
 powers_many q zero pos = omega arith

@@ -21,7 +21,8 @@ use Rattle.field_tables.proofs.AnyField.{mul-zero, no_zero_divisors}
 use Rattle.field_tables.proofs.Numbers.{digits_below, number-digits}
 use Rattle.spaces.proofs.Span.{IsLead}
 use Rattle.spaces.proofs.VectorSpaces.{D_multiple, D_zero}
-use Rattle.spaces.specs.Points.{first_nonzero, lead, point_count, points, points_below}
+use Rattle.design_base.specs.Geometries.{point_count}
+use Rattle.spaces.specs.Points.{first_nonzero, lead, points, points_below}
 use Rattle.spaces.specs.Vectors.{multiple}
 
 -- ---- the first nonzero entry
@@ -195,12 +196,3 @@ module _ (q : ℕ) (two : 1 < q) where
   pub length-points : (d : ℕ) → length (points q (d + 1)) ≡ point_count q d
   unfolding points points_below point_count
   length-points d = length_filter_below (λ x. lead q (d + 1) x == 1) (q ^ (d + 1)) ∙ counted_is (d + 1)
-
--- the vectors are one more than q - 1 times the points
-pub count_vectors : (q d : ℕ) → point_count q d * q + 1 ≡ point_count q d + q ^ (d + 1)
-unfolding point_count
-count_vectors q d = each (d + 1)
-  where
-    each : (n : ℕ) → sum_below n (λ i. q ^ i) * q + 1 ≡ sum_below n (λ i. q ^ i) + q ^ n
-    each zero = omega (arith, pow-zero q, sum_below-none (λ i. q ^ i), ap (λ t. t * q) (sum_below-none (λ i. q ^ i)))
-    each (suc n) = omega (arith, each n, pow-suc q n, sum_below-suc n (λ i. q ^ i), ap (λ t. t * q) (sum_below-suc n (λ i. q ^ i)))

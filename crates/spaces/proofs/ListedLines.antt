@@ -10,7 +10,8 @@ use Rattle.spaces.proofs.Leads.{length-points}
 use Rattle.spaces.specs.GeometryLines.{IsAffine, IsProjective, line_in}
 use Rattle.spaces.specs.Least.{least_lines}
 use Rattle.spaces.specs.Lines.{affine_lines, projective_lines}
-use Rattle.spaces.specs.Points.{point_count, points}
+use Rattle.design_base.specs.Geometries.{point_count}
+use Rattle.spaces.specs.Points.{points}
 use Rattle.spaces.specs.Weights.{weighted_line}
 use Rattle.spaces.specs.declared.geometry.Geometry.{Geometry}
 

@@ -1,7 +1,7 @@
 -- The points of a projective geometry: of each vector but 0 and its multiples, the one whose first nonzero entry is 1.
-use Rattle.std.specs.Prelude.{ℕ, ◌+◌, ◌^◌, ◌==◌, ◌<◌, ◌≡◌, List, [], ◌∷◌, filter, if◌then◌else◌, length}
+use Rattle.std.specs.Prelude.{ℕ, ◌^◌, ◌==◌, ◌<◌, ◌≡◌, List, [], ◌∷◌, filter, if◌then◌else◌, length}
 use Rattle.std.proofs.Common.{get_or}
-use Rattle.counting.specs.Sums.{list_below, sum_below}
+use Rattle.counting.specs.Sums.{list_below}
 use Rattle.design_base.specs.Digits.{digits}
 use Rattle.spaces.specs.Vectors.{multiple}
 
@@ -20,10 +20,6 @@ points_below q n bound = filter (λ x. lead q n x == 1) (list_below bound (λ x.
 -- the points among the vectors of n entries
 unfoldable pub points : ℕ → ℕ → List ℕ
 points q n = points_below q n (q ^ n)
-
--- 1 + q + .. + q ^ d
-unfoldable pub point_count : ℕ → ℕ → ℕ
-point_count q d = sum_below (d + 1) (λ i. q ^ i)
 
 -- the point at the place i is a multiple of x
 pub record IsPlace (mul : ℕ → ℕ → ℕ) (q n x i : ℕ) : Type 0 where

@@ -45,7 +45,7 @@ fn numbers(alloc: Global, v: u16) -> Result<Vec<u16>, Memory>
 impl<'a> Geometry<'a> {
     ghost use Rattle.std.specs.Prelude.{◌+◌, ◌≤◌};
     ghost use Rattle.spaces.specs.GeometryLines.{IsAffine, IsProjective};
-    ghost use Rattle.spaces.specs.Points.{point_count};
+    ghost use Rattle.design_base.specs.Geometries.{point_count};
 
     // The affine geometry of dimension `d`.
     pub fn affine(alloc: Global, field: &'a Field, d: u16) -> Result<Self, Memory>

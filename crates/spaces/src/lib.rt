@@ -4,7 +4,7 @@
 ghost use Rattle.std.specs.Prelude.{◌≡◌, ◌+◌, ◌^◌, ◌≤◌, IfOk};
 ghost use Rattle.design_base.specs.Blocks.{IsBibd};
 ghost use Rattle.spaces.specs.Lines.{affine_lines as affine_lines_of, projective_lines as projective_lines_of};
-ghost use Rattle.spaces.specs.Points.{point_count};
+ghost use Rattle.design_base.specs.Geometries.{point_count};
 
 mod geometry;
 mod points;

@@ -13,7 +13,7 @@ fn assert_rows(rt: &impl Abort, rows: &Rows, want: &[[u16; 4]]) {
 }
 
 #[test]
-#[tactic(auto, unfolding(crate::specs::Points::point_count, counting::specs::Sums::sum_below))]
+#[tactic(auto, unfolding(design_base::specs::Geometries::point_count, counting::specs::Sums::sum_below))]
 fn affine_plane_of_order_four(rt: HostRuntime) -> Result<(), Fail> {
     let lines = [
         [0, 1, 2, 3],
@@ -45,7 +45,7 @@ fn affine_plane_of_order_four(rt: HostRuntime) -> Result<(), Fail> {
 }
 
 #[test]
-#[tactic(auto, unfolding(crate::specs::Points::point_count, counting::specs::Sums::sum_below))]
+#[tactic(auto, unfolding(design_base::specs::Geometries::point_count, counting::specs::Sums::sum_below))]
 fn projective_plane_of_order_three(rt: HostRuntime) -> Result<(), Fail> {
     let lines = [
         [0, 1, 2, 3],
@@ -70,7 +70,7 @@ fn projective_plane_of_order_three(rt: HostRuntime) -> Result<(), Fail> {
 }
 
 #[test]
-#[tactic(auto, unfolding(crate::specs::Points::point_count, counting::specs::Sums::sum_below))]
+#[tactic(auto, unfolding(design_base::specs::Geometries::point_count, counting::specs::Sums::sum_below))]
 fn spaces_of_many_lines(rt: HostRuntime) -> Result<(), Fail> {
     let fields = Fields::open(rt.alloc())?;
     let three = fields.field(3).ok_or("no field")?;

@@ -10,39 +10,42 @@ use Rattle.design_base.specs.Blocks.{IsBibd, cover}
 use Rattle.design_base.specs.Canonical.{canonical}
 use Rattle.triple_systems.proofs.Columns.{column_sets, columns_none, columns_one}
 use Rattle.triple_systems.proofs.HalfSums.{half_sum-self, half_sum_square}
-use Rattle.triple_systems.proofs.Levels.{by_levels, level_sets, levels_next, levels_same, levels_square}
+use Rattle.triple_systems.proofs.Levels.{by_levels, levels_next, levels_same, levels_square}
+use Rattle.triple_systems.proofs.SymmetricLevels.{above, level_sets, symmetric_above}
 use Rattle.triple_systems.specs.Bose.{bose_blocks}
-use Rattle.triple_systems.specs.Squares.{IsSymmetric, half_sum}
+use Rattle.triple_systems.specs.Squares.{IsIdempotent, IsSymmetric, half_sum}
 use Rattle.triple_systems.specs.Triples.{columns, levels}
 
 -- the columns of three groups, and the triples above their pairs over an idempotent square
-module _ (n : ℕ) (op : ℕ → ℕ → ℕ) (square : IsSymmetric n op) (idempotent : (x : ℕ) → x < n → op x x ≡ x) (pos : 0 < n) where
+module _ (n : ℕ) (op : ℕ → ℕ → ℕ) (square : IsSymmetric n op) (idempotent : IsIdempotent n op) (pos : 0 < n) where
   abbrev blocks : List (List ℕ)
   blocks = columns n n ++ levels n op 3
 
   -- two points of one group stand together once, in a triple
   same_group : (c x y : ℕ) → c < 3 → x < y → y < n → cover blocks (place n c x) (place n c y) ≡ 1
+  unfolding levels
   same_group c x y k l m = omega (
     arith,
     cover-append (columns n n) (levels n op 3) (place n c x) (place n c y),
     columns_none n n (omega arith) c c x y (omega arith) m (omega arith),
-    levels_same n op square c x y k (omega arith) m (omega arith),
+    levels_same n op 1 (above n op square) (symmetric_above n op square) c x y k (omega arith) m (omega arith),
   )
 
   -- so do two of different groups: in a column where their numbers are equal, and else in a triple
   next_group : (c x y : ℕ) → c < 3 → x < n → y < n → cover blocks (place n c x) (place n ((c + 1) % 3) y) ≡ 1
+  unfolding levels
   next_group c x y k l m = elim (cases_eq y x) [
     | inl e ↦ rw e (omega (
       arith,
       cover-append (columns n n) (levels n op 3) (place n c x) (place n ((c + 1) % 3) x),
       columns_one n n (omega arith) c ((c + 1) % 3) x k (omega arith) l,
-      levels_square n op square c x x k l (sym (idempotent x l)),
+      levels_square n op 1 (above n op square) (symmetric_above n op square) c x x k l l (sym (idempotent x l)),
     ))
     | inr ne ↦ omega (
       arith,
       cover-append (columns n n) (levels n op 3) (place n c x) (place n ((c + 1) % 3) y),
       columns_none n n (omega arith) c ((c + 1) % 3) x y l m (omega arith),
-      levels_next n op square c x y k l m (λ e. ne (e ∙ idempotent x l)),
+      levels_next n op 1 (above n op square) (symmetric_above n op square) c x y k l m (λ e. ne (e ∙ idempotent x l)),
     )
   ]
 

@@ -2,9 +2,10 @@
 use Rattle.std.proofs.Common.{ap, arith, ℕ, ◌%◌, ◌*◌, ◌+◌, ◌-◌, ◌/◌, ◌<◌, ◌∙◌, ◌≡◌}
 use Rattle.std.proofs.Math.Nat.{mod-eq_of_lt, mod-lt}
 use Rattle.counting.proofs.Residues.{Same, equal_from_same, mod_from_same, same_from_mod, same_mod}
+use Rattle.triple_systems.proofs.LatinSquares.{symmetric_from_rows}
 use Rattle.triple_systems.specs.Squares.{IsSymmetric, half_sum}
 
-abbrev odd : ℕ → ℕ
+abbrev pub odd : ℕ → ℕ
 odd t = 2 * t + 1
 
 -- the half sum by t
@@ -24,7 +25,7 @@ unfolding half_sum
 half_sum-turn n x y = ap (λ s. (n + 1) / 2 * s % n) (omega arith)
 
 -- a number whose double is the sum is the half sum
-half_sum_is : (t x y z : ℕ) → z < odd t → Same (odd t) (x + y) (2 * z) → half_sum (odd t) x y ≡ z
+pub half_sum_is : (t x y z : ℕ) → z < odd t → Same (odd t) (x + y) (2 * z) → half_sum (odd t) x y ≡ z
 half_sum_is t x y z l s = half_sum-odd t x y
     ∙ mod_from_same (odd t) ((t + 1) * (x + y)) z (record { up = (t + 1) * s.up; down = z + (t + 1) * s.down; equal = omega (arith, ap (λ k. (t + 1) * k) s.equal) })
     ∙ mod-eq_of_lt l
@@ -48,9 +49,8 @@ half_sum-solves t x z l m =
 
 -- the half sums are a symmetric Latin square
 pub half_sum_square : (t : ℕ) → IsSymmetric (odd t) (half_sum (odd t))
-half_sum_square t = record {
-  small = λ x y l m. half_sum-below t x y;
-  turns = λ x y l m. half_sum-turn (odd t) x y;
-  cancels = λ x y z k l m. half_sum-cancels t x y z l m;
-  solves = half_sum-solves t;
-}
+half_sum_square t = symmetric_from_rows (odd t) (half_sum (odd t))
+    (λ x y l m. half_sum-below t x y)
+    (λ x y l m. half_sum-turn (odd t) x y)
+    (λ x y z k l m. half_sum-cancels t x y z l m)
+    (half_sum-solves t)

@@ -1,5 +1,5 @@
 -- Which points the triples above the pairs of one group hold.
-use Rattle.std.proofs.Common.{Bool, List, arith, inl, inr, refl, sym, true, ℕ, ◌&&◌, ◌<◌, ◌∙◌, ◌≡◌, ◌≢◌, ◌⊎◌}
+use Rattle.std.proofs.Common.{Bool, List, arith, inl, inr, refl, true, ℕ, ◌&&◌, ◌<◌, ◌∙◌, ◌≡◌, ◌≢◌, ◌⊎◌}
 use Rattle.std.proofs.lemmas.Bool.{and_from, and_parts, cases_order}
 use Rattle.std.proofs.lemmas.List.Elements.{All-from_recursion}
 use Rattle.std.specs.Prelude.{All}
@@ -7,28 +7,16 @@ use Rattle.counting.proofs.Counts.{count_pairs, pairs_none, pairs_one}
 use Rattle.counting.proofs.Ranges.{All-join_below, each_below}
 use Rattle.design_base.proofs.Canonical.{IsPointSet}
 use Rattle.design_base.proofs.Cover.{cover-pairs, cover-turn}
-use Rattle.design_base.proofs.Places.{set_of_places, stands, stands-from}
+use Rattle.design_base.proofs.Places.{set_of_places}
 use Rattle.design_base.specs.Arrays.{place}
 use Rattle.design_base.specs.Blocks.{cover, holds}
+use Rattle.triple_systems.proofs.Meets.{Meets, meets, meets-from}
 use Rattle.triple_systems.specs.Squares.{IsSymmetric}
 use Rattle.triple_systems.specs.Triples.{triple, triples_above, triples_with}
 
 module _ (n : ℕ) (op : ℕ → ℕ → ℕ) (square : IsSymmetric n op) (i j : ℕ) (apart : i ≢ j) where
-  -- the triple above p and q holds the point (x,c)
-  abbrev Meets : ℕ → ℕ → ℕ → ℕ → Type 0
-  Meets c x p q = ((c ≡ i) × ((p ≡ x) ⊎ (q ≡ x))) ⊎ ((c ≡ j) × (op p q ≡ x))
-
-  meets : (c x p q : ℕ) → x < n → p < q → q < n → holds (place n c x) (triple n i j p q (op p q)) ≡ true → Meets c x p q
-  meets c x p q l a b h = elim (stands n i p i q j (op p q) c x (omega arith) b (square.small p q (omega arith) b) l h) [
-    | inl e ↦ inl (sym e.0, inl e.1)
-    | inr (inl e) ↦ inl (sym e.0, inr e.1)
-    | inr (inr e) ↦ inr (sym e.0, e.1)
-  ]
-
-  meets-from : (c x p q : ℕ) → Meets c x p q → holds (place n c x) (triple n i j p q (op p q)) ≡ true
-  meets-from c x p q (inl (e, inl f)) = stands-from n i p i q j (op p q) c x (inl (sym e, f))
-  meets-from c x p q (inl (e, inr f)) = stands-from n i p i q j (op p q) c x (inr (inl (sym e, f)))
-  meets-from c x p q (inr (e, f)) = stands-from n i p i q j (op p q) c x (inr (inr (sym e, f)))
+  above_meets : (c x p q : ℕ) → x < n → p < q → q < n → holds (place n c x) (triple n i j p q (op p q)) ≡ true → Meets n op i j c x p q
+  above_meets c x p q l a b h = meets n op i j c x p q l (omega arith) b (square.latin.small p q (omega arith) b) h
 
   -- the triples that hold (x,c) and (y,d) are counted by the pairs
   abbrev Both : ℕ → ℕ → ℕ → ℕ → ℕ → ℕ → Bool
@@ -39,13 +27,13 @@ module _ (n : ℕ) (op : ℕ → ℕ → ℕ) (square : IsSymmetric n op) (i j :
   counted c x d y = cover-pairs n (λ p q. triple n i j p q (op p q)) (place n c x) (place n d y)
 
   -- two points that one pair alone meets, and two that none does
-  covers_one : (c x d y a b : ℕ) → x < n → y < n → a < b → b < n → Meets c x a b → Meets d y a b → ((p q : ℕ) → p < q → q < n → Meets c x p q → Meets d y p q → (p ≡ a) × (q ≡ b)) → cover (triples_above n op i j n) (place n c x) (place n d y) ≡ 1
-  covers_one c x d y a b l m s t u v w = counted c x d y ∙ pairs_one n a b (Both c x d y) s t (and_from _ _ (meets-from c x a b u) (meets-from d y a b v))
-      (λ p q k z h. let hs = and_parts _ _ h in w p q k z (meets c x p q l k z hs.0) (meets d y p q m k z hs.1))
+  covers_one : (c x d y a b : ℕ) → x < n → y < n → a < b → b < n → Meets n op i j c x a b → Meets n op i j d y a b → ((p q : ℕ) → p < q → q < n → Meets n op i j c x p q → Meets n op i j d y p q → (p ≡ a) × (q ≡ b)) → cover (triples_above n op i j n) (place n c x) (place n d y) ≡ 1
+  covers_one c x d y a b l m s t u v w = counted c x d y ∙ pairs_one n a b (Both c x d y) s t (and_from _ _ (meets-from n op i j c x a b u) (meets-from n op i j d y a b v))
+      (λ p q k z h. let hs = and_parts _ _ h in w p q k z (above_meets c x p q l k z hs.0) (above_meets d y p q m k z hs.1))
 
-  covers_none : (c x d y : ℕ) → x < n → y < n → ((p q : ℕ) → p < q → q < n → Meets c x p q → Meets d y p q → ⊥) → cover (triples_above n op i j n) (place n c x) (place n d y) ≡ 0
+  covers_none : (c x d y : ℕ) → x < n → y < n → ((p q : ℕ) → p < q → q < n → Meets n op i j c x p q → Meets n op i j d y p q → ⊥) → cover (triples_above n op i j n) (place n c x) (place n d y) ≡ 0
   covers_none c x d y l m w = counted c x d y ∙ pairs_none n (Both c x d y)
-      (λ p q k z h. let hs = and_parts _ _ h in w p q k z (meets c x p q l k z hs.0) (meets d y p q m k z hs.1))
+      (λ p q k z h. let hs = and_parts _ _ h in w p q k z (above_meets c x p q l k z hs.0) (above_meets d y p q m k z hs.1))
 
   -- two points of the pairs' group stand together once
   lower_pair_lt : (x y : ℕ) → x < y → y < n → cover (triples_above n op i j n) (place n i x) (place n i y) ≡ 1
@@ -60,7 +48,7 @@ module _ (n : ℕ) (op : ℕ → ℕ → ℕ) (square : IsSymmetric n op) (i j :
 
   -- a point and its product with itself don't
   pub square_pair : (x : ℕ) → x < n → cover (triples_above n op i j n) (place n i x) (place n j (op x x)) ≡ 0
-  square_pair x l = covers_none i x j (op x x) l (square.small x x l l) (λ p q k z u v. grind (arith, square.cancels x q x, square.cancels x p x, square.turns p x))
+  square_pair x l = covers_none i x j (op x x) l (square.latin.small x x l l) (λ p q k z u v. grind (arith, square.latin.row_cancels x q x, square.latin.row_cancels x p x, square.turns p x))
 
   -- a point x and the product of x and another point do once
   pub rising_pair : (x y z : ℕ) → x < n → z < n → x ≢ z → op x z ≡ y → cover (triples_above n op i j n) (place n i x) (place n j y) ≡ 1
@@ -71,10 +59,10 @@ module _ (n : ℕ) (op : ℕ → ℕ → ℕ) (square : IsSymmetric n op) (i j :
   ]
     where
       below : y < n
-      below = rw (← e) (square.small x z l m)
+      below = rw (← e) (square.latin.small x z l m)
 
-      only : (p q : ℕ) → p < q → q < n → Meets i x p q → Meets j y p q → ((p ≡ x) × (q ≡ z)) ⊎ ((p ≡ z) × (q ≡ x))
-      only p q k t u v = grind (arith, square.cancels x q z, square.cancels x p z, square.turns p x)
+      only : (p q : ℕ) → p < q → q < n → Meets n op i j i x p q → Meets n op i j j y p q → ((p ≡ x) × (q ≡ z)) ⊎ ((p ≡ z) × (q ≡ x))
+      only p q k t u v = grind (arith, square.latin.row_cancels x q z, square.latin.row_cancels x p z, square.turns p x)
 
   -- two points of the products' group don't
   pub upper_pair : (x y : ℕ) → x < n → y < n → x ≢ y → cover (triples_above n op i j n) (place n j x) (place n j y) ≡ 0
@@ -88,7 +76,7 @@ module _ (n : ℕ) (op : ℕ → ℕ → ℕ) (square : IsSymmetric n op) (i j :
   pub triple_sets : (v : ℕ) → ((c x : ℕ) → (c ≡ i) ⊎ (c ≡ j) → x < n → place n c x < v) → All (IsPointSet v (λ s. s ≡ 3)) (triples_above n op i j n)
   unfolding triples_above triples_with
   triple_sets v below = All-join_below S n _ (λ y l. All-from_recursion S _ (each_below S y (λ x. triple n i j x y (op x y)) (λ x m.
-      let z : op x y < n = square.small x y (omega arith) l in
+      let z : op x y < n = square.latin.small x y (omega arith) l in
       set_of_places v n i x i y j (op x y) (omega arith) l z (inr (omega arith)) (inl apart) (inl apart)
       (below i x (inl refl) (omega arith)) (below i y (inl refl) l) (below j (op x y) (inr refl) z))))
     where

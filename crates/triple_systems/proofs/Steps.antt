@@ -1,8 +1,10 @@
 -- How the lists of triples grow: a loop begins with none, and each round appends what the next number gives.
-use Rattle.std.proofs.Common.{[], add-one, refl, ℕ, ◌%◌, ◌++◌, ◌+◌, ◌∷◌, ◌≡◌}
+use Rattle.std.proofs.Common.{[], add-one, ap, refl, ℕ, ◌%◌, ◌++◌, ◌+◌, ◌==◌, ◌∙◌, ◌∷◌, ◌≡◌, ◌≢◌}
+use Rattle.std.proofs.lemmas.Bool.{cond-false, cond-true, eq-eqb, ne_eqb}
 use Rattle.std.proofs.lemmas.List.{append-nil, append_assoc}
 use Rattle.counting.proofs.Counts.{join_below_more, join_below_none}
-use Rattle.triple_systems.specs.Triples.{column, columns, levels, triple, triples_above, triples_with}
+use Rattle.triple_systems.specs.Double.{six_point_blocks}
+use Rattle.triple_systems.specs.Triples.{column, columns, levels, ordered_levels, triple, triples_above, ordered_triples_with, ordered_triples_above, triples_with, infinite_triple, infinite_triples, infinite_triples_of}
 
 pub columns-none : (n : ℕ) → columns n 0 ≡ []
 unfolding columns
@@ -37,4 +39,58 @@ module _ (n : ℕ) (op : ℕ → ℕ → ℕ) where
   unfolding levels
   levels-more m = join_below_more m _
 
-pub ruleset steps = (append-nil, append_assoc, columns-none, columns-more, triples_with-none, triples_with-more, triples_above-none, triples_above-more, levels-none, levels-more)
+module _ (n : ℕ) (op : ℕ → ℕ → ℕ) where
+  pub ordered_triples_with-none : (i j y : ℕ) → ordered_triples_with n op i j y 0 ≡ []
+  unfolding ordered_triples_with
+  ordered_triples_with-none i j y = join_below_none _
+
+  pub ordered_triples_with-same : (i j y m : ℕ) → m ≡ y → ordered_triples_with n op i j y (m + 1) ≡ ordered_triples_with n op i j y m
+  unfolding ordered_triples_with
+  ordered_triples_with-same i j y m e = join_below_more m _ ∙ ap (λ t. ordered_triples_with n op i j y m ++ t) (cond-true (m == y) _ _ (eq-eqb m y e)) ∙ append-nil (ordered_triples_with n op i j y m)
+
+  pub ordered_triples_with-more : (i j y m : ℕ) → m ≢ y → ordered_triples_with n op i j y (m + 1) ≡ ordered_triples_with n op i j y m ++ triple n i j m y (op m y) ∷ []
+  unfolding ordered_triples_with
+  ordered_triples_with-more i j y m ne = join_below_more m _ ∙ ap (λ t. ordered_triples_with n op i j y m ++ t) (cond-false (m == y) _ _ (ne_eqb m y ne))
+
+  pub ordered_triples_above-none : (i j : ℕ) → ordered_triples_above n op i j 0 ≡ []
+  unfolding ordered_triples_above
+  ordered_triples_above-none i j = join_below_none _
+
+  pub ordered_triples_above-more : (i j m : ℕ) → ordered_triples_above n op i j (m + 1) ≡ ordered_triples_above n op i j m ++ ordered_triples_with n op i j m n
+  unfolding ordered_triples_above
+  ordered_triples_above-more i j m = join_below_more m _
+
+  pub ordered_levels-none : ordered_levels n op 0 ≡ []
+  unfolding ordered_levels
+  ordered_levels-none = join_below_none _
+
+  pub ordered_levels-more : (m : ℕ) → ordered_levels n op (m + 1) ≡ ordered_levels n op m ++ ordered_triples_above n op m ((m + 1) % 3) n
+  unfolding ordered_levels
+  ordered_levels-more m = join_below_more m _
+
+module _ (n s : ℕ) where
+  pub infinite_triples_of-none : (i : ℕ) → infinite_triples_of n s i 0 ≡ []
+  unfolding infinite_triples_of
+  infinite_triples_of-none i = join_below_none _
+
+  pub infinite_triples_of-more : (i m : ℕ) → infinite_triples_of n s i (m + 1) ≡ infinite_triples_of n s i m ++ infinite_triple n s i m ∷ []
+  unfolding infinite_triples_of
+  infinite_triples_of-more i m = join_below_more m _
+
+  pub infinite_triples-none : (m : ℕ) → infinite_triples n s m 0 ≡ []
+  unfolding infinite_triples
+  infinite_triples-none m = join_below_none _
+
+  pub infinite_triples-more : (m h : ℕ) → infinite_triples n s m (h + 1) ≡ infinite_triples n s m h ++ infinite_triples_of n s h m
+  unfolding infinite_triples
+  infinite_triples-more m h = join_below_more h _
+
+pub six_point_blocks-none : six_point_blocks 0 ≡ []
+unfolding six_point_blocks
+six_point_blocks-none = join_below_none _
+
+pub six_point_blocks-more : (m : ℕ) → six_point_blocks (m + 1) ≡ six_point_blocks m ++ (5 ∷ m ∷ (m + 2) % 5 ∷ []) ∷ (m ∷ (m + 1) % 5 ∷ (m + 2) % 5 ∷ []) ∷ []
+unfolding six_point_blocks
+six_point_blocks-more m = join_below_more m _
+
+pub ruleset steps = (append-nil, append_assoc, columns-none, columns-more, triples_with-none, triples_with-more, triples_above-none, triples_above-more, levels-none, levels-more, ordered_triples_with-none, ordered_triples_with-same, ordered_triples_with-more, ordered_triples_above-none, ordered_triples_above-more, ordered_levels-none, ordered_levels-more, infinite_triples_of-none, infinite_triples_of-more, infinite_triples-none, infinite_triples-more, six_point_blocks-none, six_point_blocks-more)

@@ -1,5 +1,6 @@
 -- Triples of points in groups of n points, where `place n i x` is point x of group i. Each list takes the bound m of what it goes through.
-use Rattle.std.specs.Prelude.{List, [], ℕ, ◌%◌, ◌+◌, ◌∷◌}
+use Rattle.std.specs.Prelude.{List, [], ℕ, ◌%◌, ◌+◌, ◌∷◌, ◌==◌}
+use Rattle.std.proofs.Common.{cond}
 use Rattle.counting.specs.Sums.{join_below, list_below}
 use Rattle.design_base.specs.Arrays.{place}
 
@@ -15,6 +16,8 @@ columns n m = list_below m (λ x. column n x)
 abbrev pub triple : ℕ → ℕ → ℕ → ℕ → ℕ → ℕ → List ℕ
 triple n i j x y z = place n i x ∷ place n i y ∷ place n j z ∷ []
 
+-- ---- above the pairs x < y
+
 -- the triples above the pairs of y and each x below m: the pair is in group i, its product in group j
 unfoldable pub triples_with : ℕ → (ℕ → ℕ → ℕ) → ℕ → ℕ → ℕ → ℕ → List (List ℕ)
 triples_with n op i j y m = list_below m (λ x. triple n i j x y (op x y))
@@ -26,3 +29,31 @@ triples_above n op i j m = join_below m (λ y. triples_with n op i j y y)
 -- the triples above all pairs of each group i below m, with the products in the next of the groups 0, 1 and 2
 unfoldable pub levels : ℕ → (ℕ → ℕ → ℕ) → ℕ → List (List ℕ)
 levels n op m = join_below m (λ i. triples_above n op i ((i + 1) % 3) n)
+
+-- ---- above the ordered pairs of different numbers
+
+-- the triples above the ordered pairs of each other x below m and y
+unfoldable pub ordered_triples_with : ℕ → (ℕ → ℕ → ℕ) → ℕ → ℕ → ℕ → ℕ → List (List ℕ)
+ordered_triples_with n op i j y m = join_below m (λ x. cond (x == y) [] (triple n i j x y (op x y) ∷ []))
+
+-- the triples above the ordered pairs of each other number below n and each y below m
+unfoldable pub ordered_triples_above : ℕ → (ℕ → ℕ → ℕ) → ℕ → ℕ → ℕ → List (List ℕ)
+ordered_triples_above n op i j m = join_below m (λ y. ordered_triples_with n op i j y n)
+
+-- the triples above all ordered pairs of each group i below m, with the products in the next of the groups 0, 1 and 2
+unfoldable pub ordered_levels : ℕ → (ℕ → ℕ → ℕ) → ℕ → List (List ℕ)
+ordered_levels n op m = join_below m (λ i. ordered_triples_above n op i ((i + 1) % 3) n)
+
+-- ---- with the infinite point, which comes after three groups
+
+-- the infinite point, the point x + s of group i, and x of the next group
+abbrev pub infinite_triple : ℕ → ℕ → ℕ → ℕ → List ℕ
+infinite_triple n s i x = place n 3 0 ∷ place n i (x + s) ∷ place n ((i + 1) % 3) x ∷ []
+
+-- those of group i and of the numbers x below m
+unfoldable pub infinite_triples_of : ℕ → ℕ → ℕ → ℕ → List (List ℕ)
+infinite_triples_of n s i m = list_below m (λ x. infinite_triple n s i x)
+
+-- those of the groups below h and of the numbers x below m
+unfoldable pub infinite_triples : ℕ → ℕ → ℕ → ℕ → List (List ℕ)
+infinite_triples n s m h = join_below h (λ i. infinite_triples_of n s i m)

@@ -3,7 +3,7 @@ use Rattle.design_base.specs.Blocks.{IsBibd}
 use Rattle.spaces.proofs.Bounds.{order_small}
 use Rattle.spaces.proofs.ListedLines.{length-points_in, projective_is_design, projective_listed}
 use Rattle.spaces.specs.GeometryLines.{IsProjective}
-use Rattle.spaces.specs.Points.{point_count}
+use Rattle.design_base.specs.Geometries.{point_count}
 use Rattle.spaces.proofs.projective_lines.Goals as goal
 
 pub lines-requires-clause-points : goal.lines-requires-clause-points
