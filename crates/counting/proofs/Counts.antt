@@ -1,5 +1,5 @@
 -- Sums over the numbers below a bound, and counts as such sums.
-use Rattle.std.proofs.Common.{Bool, List, [], add-one, ap, arith, false, inl, inr, refl, suc, sym, true, zero, ℕ, ◌&&◌, ◌||◌, ◌*◌, ◌++◌, ◌+◌, ◌<◌, ◌==◌, ◌∙◌, ◌≡◌, ◌≢◌, ◌⊎◌}
+use Rattle.std.proofs.Common.{Bool, List, [], add-one, ap, arith, false, inl, inr, refl, suc, sym, true, zero, ℕ, ◌&&◌, ◌||◌, ◌*◌, ◌++◌, ◌+◌, ◌<◌, ◌==◌, ◌∙◌, ◌≡◌, ◌≢◌, ◌≤◌, ◌⊎◌}
 use Rattle.std.proofs.lemmas.Bool.{cases_eq, eq-eqb, eqb-true}
 use Rattle.std.proofs.lemmas.Bool.Decides.{nat_tests}
 use Rattle.counting.specs.Sums.{join_below, one, sum_below}
@@ -22,6 +22,12 @@ pub sum_below-zero : (n : ℕ) (f : ℕ → ℕ) → ((i : ℕ) → i < n → f 
 unfolding sum_below
 sum_below-zero zero f h = refl
 sum_below-zero (suc n) f h = omega (arith, sum_below-zero n f (λ i l. h i (omega arith)), h n (omega arith))
+
+-- terms that are no larger
+pub sum_below-le : (n : ℕ) (f g : ℕ → ℕ) → ((i : ℕ) → i < n → f i ≤ g i) → sum_below n f ≤ sum_below n g
+unfolding sum_below
+sum_below-le zero f g h = omega arith
+sum_below-le (suc n) f g h = omega (arith, sum_below-le n f g (λ i l. h i (omega arith)), h n (omega arith))
 
 pub sum_below-add : (n : ℕ) (f g : ℕ → ℕ) → sum_below n (λ i. f i + g i) ≡ sum_below n f + sum_below n g
 unfolding sum_below

@@ -1,5 +1,5 @@
 -- Sums over lists, and what holds of each element.
-use Rattle.std.proofs.Common.{Bool, List, [], ap, arith, false, length, map, refl, suc, sym, true, zero, ℕ, ◌&&◌, ◌*◌, ◌++◌, ◌+◌, ◌∷◌, ◌≡◌}
+use Rattle.std.proofs.Common.{Bool, List, [], ap, arith, false, length, map, refl, subst, suc, sym, true, zero, ℕ, ◌&&◌, ◌*◌, ◌++◌, ◌+◌, ◌∷◌, ◌≡◌, ◌≤◌}
 use Rattle.std.proofs.lemmas.Bool.{cond_both}
 use Rattle.std.proofs.lemmas.List.Elements.{All-append, All-head, All-map, All-nil, All-tail, All-weaker, recursion_from_All}
 use Rattle.std.proofs.lemmas.List.Sums.{sum_by-append, sum_by-cons}
@@ -115,3 +115,12 @@ each-push P (x ∷ xs) y h p = (h.0, each-push P xs y h.1 p)
 pub all_filter : {X : Type 0} (P Q : X → Type 0) (p : X → Bool) → ((x : X) → P x → p x ≡ true → Q x) → (xs : List X) → AllByRecursion P xs → AllByRecursion Q (filter p xs)
 all_filter P Q p f [] h = tt
 all_filter P Q p f (x ∷ xs) h = cond_both (p x) _ _ (AllByRecursion Q) (λ e. (f x h.0 e, all_filter P Q p f xs h.1)) (λ e. all_filter P Q p f xs h.1)
+
+-- what holds of all holds of all that are left behind the first
+pub left_after : {X : Type 0} (P : X → Type 0) (all : List X) (x : X) (rest : List X) → all ≡ x ∷ rest → All P all → All P rest
+left_after P all x rest is each = let now : All P (x ∷ rest) = subst (All P) is each in All-tail P x rest now
+
+-- sums whose terms are no larger
+pub sum_by-le : {X : Type 0} (f g : X → ℕ) (xs : List X) → AllByRecursion (λ x. f x ≤ g x) xs → sum_by f xs ≤ sum_by g xs
+sum_by-le f g [] h = omega arith
+sum_by-le f g (x ∷ xs) h = omega (arith, h.0, sum_by-le f g xs h.1, sum_by-cons f x xs, sum_by-cons g x xs)

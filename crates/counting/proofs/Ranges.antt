@@ -1,5 +1,5 @@
 -- Lists over the numbers below a bound.
-use Rattle.std.proofs.Common.{List, [], ap, arith, get_or, inl, inr, length, refl, suc, sym, zero, ℕ, ◌<◌, ◌∙◌, ◌∷◌, ◌≡◌}
+use Rattle.std.proofs.Common.{List, [], ap, ap₂, arith, get_or, inl, inr, length, refl, suc, sym, zero, ℕ, ◌++◌, ◌+◌, ◌<◌, ◌∙◌, ◌∷◌, ◌≡◌}
 use Rattle.std.proofs.lemmas.Bool.{cases_eq}
 use Rattle.std.proofs.lemmas.List.{get_or_append_left, get_or_push, length_push}
 use Rattle.std.proofs.lemmas.List.Elements.{All-append, All-nil}
@@ -30,3 +30,9 @@ get_or-list_below (suc n) f i d l = elim (cases_eq i n) [
   | inl e ↦ get_or_push (list_below n f) (f n) d i (length-list_below n f ∙ sym e) ∙ ap f (sym e)
   | inr ne ↦ get_or_append_left (list_below n f) (f n ∷ []) d i (omega (arith, length-list_below n f)) ∙ get_or-list_below n f i d (omega arith)
 ]
+
+-- lists that agree piece by piece
+pub join_below-same : {X : Type 0} (n : ℕ) (f g : ℕ → List X) → ((i : ℕ) → i < n → f i ≡ g i) → join_below n f ≡ join_below n g
+unfolding join_below
+join_below-same zero f g h = refl
+join_below-same (suc n) f g h = ap₂ (λ xs ys. xs ++ ys) (join_below-same n f g (λ i l. h i (omega arith))) (h n (omega arith))

@@ -1,0 +1,227 @@
+-- The steps of the loops that write blocks: what there is before the first, and what one more adds.
+use Rattle.std.proofs.Common.{Bool, List, Some, [], add-one, ap, ap₂, arith, cond, false, inl, inr, length, map, not, refl, slice_set, subst, suc, sym, take, true, zero, ℕ, ◌*◌, ◌++◌, ◌+◌, ◌<◌, ◌==◌, ◌∙◌, ◌∷◌, ◌≡◌, ◌≢◌, ◌≤◌, get_or}
+use Rattle.std.proofs.lemmas.Bool.{cases_Bool, cond-false, cond-true, eq-eqb, lt-ltb, ne_eqb}
+use Rattle.std.proofs.lemmas.Bool.Decides.{nat_tests}
+use Rattle.std.proofs.lemmas.List.{append-nil, append_assoc, get_or-map, map-append, take_more, take_more_set}
+use Rattle.std.proofs.lemmas.List.Elements.{filter-append}
+use Rattle.std.specs.Prelude.{filter, nat_lt, slice_get}
+use Rattle.incidence.proofs.Walk.{take_next}
+use Rattle.counting.proofs.Counts.{join_below_more, join_below_none}
+use Rattle.counting.specs.Sums.{join_below, list_below}
+use Rattle.design_base.specs.Blocks.{holds}
+use Rattle.incidence.proofs.Sizes.{size_of-append, size_of-cons}
+use Rattle.gdd_pbd.specs.Deleting.{below_point, groups_at, renamed_rest}
+use Rattle.gdd_pbd.specs.Weighting.{chosen, weighted}
+use Rattle.gdd_pbd.specs.Filling.{groups_of, place_by, rename}
+use Rattle.gdd_pbd.specs.Basic.{all_but_one, complement, kept, missing, omitted, pair_blocks, pairs_once, pairs_with, whole_blocks}
+
+-- a number written at the end of the numbers so far
+pub front_more : (row : List ℕ) (j x : ℕ) → j < length row → take (j + 1) (slice_set row j x) ≡ take j row ++ x ∷ []
+front_more row j x l = take_more_set row j x l
+
+-- ---- points that a block misses
+kept_same : (n : ℕ) (p q : ℕ → Bool) → ((x : ℕ) → p x ≡ q x) → kept n p ≡ kept n q
+unfolding kept join_below
+kept_same zero p q h = refl
+kept_same (suc n) p q h = ap₂ (λ xs t. xs ++ cond t (n ∷ []) []) (kept_same n p q h) (h n)
+
+pub missing-none : (b : List ℕ) → missing 0 b ≡ []
+unfolding missing kept join_below
+missing-none b = refl
+
+pub missing-more : (x : ℕ) (b : List ℕ) → holds x b ≡ false → missing (x + 1) b ≡ missing x b ++ x ∷ []
+unfolding missing kept
+missing-more x b e = join_below_more x _ ∙ ap (λ t. kept x (λ x. not (holds x b)) ++ t) (cond-true (not (holds x b)) _ _ (ap not e))
+
+pub missing-same : (x : ℕ) (b : List ℕ) → holds x b ≡ true → missing (x + 1) b ≡ missing x b
+unfolding missing kept
+missing-same x b e = join_below_more x _ ∙ ap (λ t. kept x (λ x. not (holds x b)) ++ t) (cond-false (not (holds x b)) _ _ (ap not e)) ∙ append-nil (kept x (λ x. not (holds x b)))
+
+pub missing_written : (x n m : ℕ) (b points after : List ℕ) → holds x b ≡ false → n < length points → take n points ≡ missing x b → after ≡ slice_set points n x → m ≡ n + 1 → take m after ≡ missing (x + 1) b
+missing_written x n m b points after e l h is more = ap₂ take more is ∙ front_more points n x l ∙ ap (λ t. t ++ x ∷ []) h ∙ sym (missing-more x b e)
+
+pub missing_passed : (x n m : ℕ) (b points after : List ℕ) → holds x b ≡ true → take n points ≡ missing x b → after ≡ points → m ≡ n → take m after ≡ missing (x + 1) b
+missing_passed x n m b points after e h is same = ap₂ take same is ∙ h ∙ sym (missing-same x b e)
+
+missing_nothing : (v : ℕ) → missing v [] ≡ kept v (λ x. true)
+unfolding missing holds
+missing_nothing v = refl
+
+every : (v : ℕ) → kept v (λ x. true) ≡ list_below v (λ x. x)
+unfolding kept
+every v = refl
+
+one_point : (x z : ℕ) → holds x (z ∷ []) ≡ (x == z)
+unfolding holds
+one_point x z = grind (arith, nat_tests)
+
+missing_one : (v z : ℕ) → missing v (z ∷ []) ≡ kept v (λ x. not (x == z))
+unfolding missing
+missing_one v z = kept_same v _ _ (λ x. ap not (one_point x z))
+
+pub whole-none : (v : ℕ) → whole_blocks v 0 ≡ []
+unfolding whole_blocks
+whole-none v = join_below_none _
+
+pub whole-more : (v l : ℕ) → whole_blocks v (l + 1) ≡ whole_blocks v l ++ missing v [] ∷ []
+unfolding whole_blocks
+whole-more v l = join_below_more l _ ∙ ap (λ b. whole_blocks v l ++ b ∷ []) (sym (missing_nothing v ∙ every v))
+
+pub pairs_with-none : (y : ℕ) → pairs_with y 0 ≡ []
+unfolding pairs_with
+pairs_with-none y = join_below_none _
+
+pub pairs_with-more : (y m : ℕ) → pairs_with y (m + 1) ≡ pairs_with y m ++ (m ∷ y ∷ []) ∷ []
+unfolding pairs_with
+pairs_with-more y m = join_below_more m _
+
+pub pairs_once-none : pairs_once 0 ≡ []
+unfolding pairs_once
+pairs_once-none = join_below_none _
+
+pub pairs_once-more : (m : ℕ) → pairs_once (m + 1) ≡ pairs_once m ++ pairs_with m m
+unfolding pairs_once
+pairs_once-more m = join_below_more m _
+
+pub pair_blocks-none : (v : ℕ) → pair_blocks v 0 ≡ []
+unfolding pair_blocks
+pair_blocks-none v = join_below_none _
+
+pub pair_blocks-more : (v m : ℕ) → pair_blocks v (m + 1) ≡ pair_blocks v m ++ pairs_once v
+unfolding pair_blocks
+pair_blocks-more v m = join_below_more m _
+
+pub all_but_one-none : (v : ℕ) → all_but_one v 0 ≡ []
+unfolding all_but_one
+all_but_one-none v = join_below_none _
+
+pub all_but_one-more : (v m : ℕ) → all_but_one v (m + 1) ≡ all_but_one v m ++ missing v (m ∷ []) ∷ []
+unfolding all_but_one
+all_but_one-more v m = join_below_more m _ ∙ ap (λ b. all_but_one v m ++ b ∷ []) (sym (missing_one v m))
+
+pub omitted-none : (v : ℕ) → omitted v 0 ≡ []
+unfolding omitted
+omitted-none v = join_below_none _
+
+pub omitted-more : (v m : ℕ) → omitted v (m + 1) ≡ omitted v m ++ all_but_one v v
+unfolding omitted
+omitted-more v m = join_below_more m _
+
+pub complement-none : (v : ℕ) → complement v [] ≡ []
+unfolding complement
+complement-none v = refl
+
+pub complement-next : (v : ℕ) (b : List ℕ) (B : List (List ℕ)) → complement v (b ∷ B) ≡ missing v b ∷ [] ++ complement v B
+unfolding complement
+complement-next v b B = refl
+
+-- ---- blocks without the points from v on
+pub front-none : (v : ℕ) → filter (λ x. nat_lt x v) [] ≡ []
+front-none v = refl
+
+pub front-kept : (v i x : ℕ) (b : List ℕ) → slice_get b i ≡ Some x → x < v → filter (λ x. nat_lt x v) (take (i + 1) b) ≡ filter (λ x. nat_lt x v) (take i b) ++ x ∷ []
+front-kept v i x b is l = ap (filter (λ x. nat_lt x v)) (take_next b i x is) ∙ filter-append (λ x. nat_lt x v) (take i b) (x ∷ []) ∙ ap (λ t. filter (λ x. nat_lt x v) (take i b) ++ t) (cond-true (nat_lt x v) _ _ (lt-ltb x v l))
+
+not_below : (x v : ℕ) → v ≤ x → nat_lt x v ≡ false
+not_below x v l = grind (arith, nat_tests)
+
+pub front-dropped : (v i x : ℕ) (b : List ℕ) → slice_get b i ≡ Some x → v ≤ x → filter (λ x. nat_lt x v) (take (i + 1) b) ≡ filter (λ x. nat_lt x v) (take i b)
+front-dropped v i x b is l = ap (filter (λ x. nat_lt x v)) (take_next b i x is) ∙ filter-append (λ x. nat_lt x v) (take i b) (x ∷ []) ∙ ap (λ t. filter (λ x. nat_lt x v) (take i b) ++ t) (cond-false (nat_lt x v) _ _ (not_below x v l)) ∙ append-nil (filter (λ x. nat_lt x v) (take i b))
+
+pub below_point-none : (v : ℕ) → below_point v [] ≡ []
+unfolding below_point
+below_point-none v = refl
+
+pub below_point-next : (v : ℕ) (b : List ℕ) (B : List (List ℕ)) → below_point v (b ∷ B) ≡ filter (λ x. nat_lt x v) b ∷ [] ++ below_point v B
+unfolding below_point
+below_point-next v b B = refl
+
+-- ---- renamed points
+pub renamed_next : (f : ℕ → ℕ) (block row : List ℕ) (j x : ℕ) → j < length row → j < length block → take j row ≡ map f (take j block) → x ≡ f (get_or block j 0) →
+    take (j + 1) (slice_set row j x) ≡ map f (take (j + 1) block)
+renamed_next f block row j x l h e is = take_more_set row j x l ∙ ap₂ (λ front x. front ++ x ∷ []) e is
+    ∙ sym (map-append f (take j block) (get_or block j 0 ∷ [])) ∙ ap (map f) (sym (take_more block j 0 h))
+
+pub rename-none : (f : ℕ → ℕ) → rename f [] ≡ []
+unfolding rename
+rename-none f = refl
+
+pub rename-next : (f : ℕ → ℕ) (b : List ℕ) (B : List (List ℕ)) → rename f (b ∷ B) ≡ map f b ∷ [] ++ rename f B
+unfolding rename
+rename-next f b B = refl
+
+pub groups_of-none : (g u : ℕ) (D : List (List ℕ)) → groups_of g u D 0 ≡ []
+unfolding groups_of
+groups_of-none g u D = join_below_none _
+
+pub groups_of-more : (g u m : ℕ) (D : List (List ℕ)) → groups_of g u D (m + 1) ≡ groups_of g u D m ++ rename (place_by g (m ∷ u ∷ [])) D
+unfolding groups_of
+groups_of-more g u m D = join_below_more m _
+
+-- ---- blocks over the groups of other blocks
+pub weighted-none : (w : ℕ) (D : ℕ → List (List ℕ)) → weighted w D [] ≡ []
+unfolding weighted
+weighted-none w D = refl
+
+pub weighted-next : (w : ℕ) (D : ℕ → List (List ℕ)) (b : List ℕ) (G : List (List ℕ)) → weighted w D (b ∷ G) ≡ rename (place_by w b) (D (length b)) ++ weighted w D G
+unfolding weighted
+weighted-next w D b G = refl
+
+pub chosen-first : (s z : ℕ) (C D : List (List ℕ)) → z ≡ s → chosen s C D z ≡ C
+unfolding chosen
+chosen-first s z C D e = cond-true (z == s) _ _ (eq-eqb z s e)
+
+pub chosen-second : (s z : ℕ) (C D : List (List ℕ)) → z ≢ s → chosen s C D z ≡ D
+unfolding chosen
+chosen-second s z C D ne = cond-false (z == s) _ _ (ne_eqb z s ne)
+
+-- ---- blocks through a point and others
+pub groups_at-none : (p : ℕ) → groups_at p [] ≡ []
+unfolding groups_at below_point
+groups_at-none p = refl
+
+pub groups_at-through : (p : ℕ) (b : List ℕ) (B : List (List ℕ)) → holds p b ≡ true → groups_at p (b ∷ B) ≡ filter (λ x. nat_lt x p) b ∷ [] ++ groups_at p B
+unfolding groups_at
+groups_at-through p b B e = ap (below_point p) (cond-true (holds p b) _ _ e) ∙ below_point-next p b (filter (λ b. holds p b) B)
+
+pub groups_at-past : (p : ℕ) (b : List ℕ) (B : List (List ℕ)) → holds p b ≡ false → groups_at p (b ∷ B) ≡ groups_at p B
+unfolding groups_at
+groups_at-past p b B e = ap (below_point p) (cond-false (holds p b) _ _ e)
+
+pub groups_at-one : (p : ℕ) (b : List ℕ) → holds p b ≡ true → groups_at p (b ∷ []) ≡ filter (λ x. nat_lt x p) b ∷ []
+groups_at-one p b e = groups_at-through p b [] e ∙ ap (λ xs. filter (λ x. nat_lt x p) b ∷ [] ++ xs) (groups_at-none p)
+
+pub groups_at-no : (p : ℕ) (b : List ℕ) → holds p b ≡ false → groups_at p (b ∷ []) ≡ []
+groups_at-no p b e = groups_at-past p b [] e ∙ groups_at-none p
+
+pub groups_at-next : (p : ℕ) (b : List ℕ) (B : List (List ℕ)) → groups_at p (b ∷ B) ≡ groups_at p (b ∷ []) ++ groups_at p B
+groups_at-next p b B = elim (cases_Bool (holds p b)) [
+  | inl e ↦ groups_at-through p b B e ∙ ap (λ xs. xs ++ groups_at p B) (sym (groups_at-one p b e))
+  | inr e ↦ groups_at-past p b B e ∙ ap (λ xs. xs ++ groups_at p B) (sym (groups_at-no p b e))
+]
+
+pub renamed_rest-none : (f : ℕ → ℕ) (p : ℕ) → renamed_rest f p [] ≡ []
+unfolding renamed_rest rename
+renamed_rest-none f p = refl
+
+pub renamed_rest-past : (f : ℕ → ℕ) (p : ℕ) (b : List ℕ) (B : List (List ℕ)) → holds p b ≡ false → renamed_rest f p (b ∷ B) ≡ map f b ∷ [] ++ renamed_rest f p B
+unfolding renamed_rest
+renamed_rest-past f p b B e = ap (rename f) (cond-true (not (holds p b)) _ _ (ap not e)) ∙ rename-next f b (filter (λ b. not (holds p b)) B)
+
+pub renamed_rest-through : (f : ℕ → ℕ) (p : ℕ) (b : List ℕ) (B : List (List ℕ)) → holds p b ≡ true → renamed_rest f p (b ∷ B) ≡ renamed_rest f p B
+unfolding renamed_rest
+renamed_rest-through f p b B e = ap (rename f) (cond-false (not (holds p b)) _ _ (ap not e))
+
+pub renamed_rest-one : (f : ℕ → ℕ) (p : ℕ) (b : List ℕ) → holds p b ≡ false → renamed_rest f p (b ∷ []) ≡ map f b ∷ []
+renamed_rest-one f p b e = renamed_rest-past f p b [] e ∙ ap (λ xs. map f b ∷ [] ++ xs) (renamed_rest-none f p)
+
+pub renamed_rest-no : (f : ℕ → ℕ) (p : ℕ) (b : List ℕ) → holds p b ≡ true → renamed_rest f p (b ∷ []) ≡ []
+renamed_rest-no f p b e = renamed_rest-through f p b [] e ∙ renamed_rest-none f p
+
+pub renamed_rest-next : (f : ℕ → ℕ) (p : ℕ) (b : List ℕ) (B : List (List ℕ)) → renamed_rest f p (b ∷ B) ≡ renamed_rest f p (b ∷ []) ++ renamed_rest f p B
+renamed_rest-next f p b B = elim (cases_Bool (holds p b)) [
+  | inl e ↦ renamed_rest-through f p b B e ∙ ap (λ xs. xs ++ renamed_rest f p B) (sym (renamed_rest-no f p b e))
+  | inr e ↦ renamed_rest-past f p b B e ∙ ap (λ xs. xs ++ renamed_rest f p B) (sym (renamed_rest-one f p b e))
+]
+
+pub ruleset steps = (append-nil, append_assoc, size_of-cons, size_of-append, front_more, missing-none, missing-more, missing-same, whole-none, whole-more, pairs_with-none, pairs_with-more, pairs_once-none, pairs_once-more, pair_blocks-none, pair_blocks-more, all_but_one-none, all_but_one-more, omitted-none, omitted-more, complement-none, complement-next, front-none, front-kept, front-dropped, below_point-none, below_point-next, rename-none, rename-next, groups_of-none, groups_of-more, weighted-none, weighted-next, chosen-first, chosen-second, groups_at-none, groups_at-one, groups_at-no, groups_at-next, renamed_rest-none, renamed_rest-one, renamed_rest-no, renamed_rest-next)
