@@ -4,7 +4,7 @@ use Rattle.std.specs.Prelude.{None}
 use Rattle.counting.specs.Search.{each_passes, first_in, is_among}
 use Rattle.counting.specs.Sorting.{insert_by, sort_by}
 use Rattle.counting.specs.Sums.{join_below}
-use Rattle.criteria.specs.Criteria.{reasons, reason_of}
+use Rattle.criteria.specs.Criteria.{comparisons, comparison_of}
 use Rattle.design_base.specs.Arrays.{blocks_of_rows, place, row_block}
 use Rattle.design_base.specs.Canonical.{canonical, lex_le}
 use Rattle.design_base.specs.Fields.{shapes, shape_of}
@@ -61,7 +61,7 @@ unfolding fault fault_from fault_of_line in_bounds is_candidate terms td_terms a
 surplus_line = refl
 
 derivation_of_ten : derivation (Td 4 10) ≡ plane 3 ∷ line (Td 4 10) (step Parker 3 0 0 0) (1 ∷ []) ∷ []
-unfolding derivation derivation_behind unfolded parts verdict verdict_below judged reasons reason_of candidates terms td_terms choices in_bounds join_below premises premises_at first_in each_passes shapes shape_of rank
+unfolding derivation derivation_behind unfolded parts verdict verdict_below judged comparisons comparison_of candidates terms td_terms choices in_bounds join_below premises premises_at first_in each_passes shapes shape_of rank
 derivation_of_ten = refl
 
 replayed_of_two : replayed (line (Td 3 2) (step Cyclic 0 0 0 0) [] ∷ []) ≡ (0 ∷ 2 ∷ 4 ∷ []) ∷ (0 ∷ 3 ∷ 5 ∷ []) ∷ (1 ∷ 2 ∷ 5 ∷ []) ∷ (1 ∷ 3 ∷ 4 ∷ []) ∷ []

@@ -16,7 +16,7 @@ use Rattle.design_base.specs.declared.verdict.Verdict.TheVariants.{Yes}
 use Rattle.design_base.specs.Steps.{Step, step}
 use Rattle.design_base.specs.Geometries.{point_count}
 use Rattle.triple_systems.proofs.BoseSystem.{bose_design}
-use Rattle.design_cli.proofs.LineDesigns.{listed_affine, listed_projective}
+use Rattle.spaces.proofs.LineDesigns.{listed_affine, listed_projective}
 use Rattle.design_cli.specs.Chosen.{triple_verdict, affine_verdict, projective_verdict, geometry_verdict, dimension_of, chosen, blocks_at}
 use Rattle.spaces.specs.Lines.{affine_lines, projective_lines}
 

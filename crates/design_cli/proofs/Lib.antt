@@ -2,7 +2,6 @@ pub mod Words
 pub mod Outputs
 pub mod BlockTexts
 pub mod Endings
-pub mod LineDesigns
 pub mod Choices
 pub mod Printable
 pub mod Reasons

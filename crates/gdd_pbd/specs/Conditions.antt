@@ -1,5 +1,5 @@
 -- What the builders need: each record is the one condition of a builder, and what the theorem begins with that its list is a design.
-use Rattle.std.specs.Prelude.{List, None, Option, Some, ℕ, ◌%◌, ◌*◌, ◌+◌, ◌-◌, ◌<◌, ◌≡◌, ◌≤◌, ◌⊎◌}
+use Rattle.std.specs.Prelude.{List, None, Option, Some, ℕ, ◌%◌, ◌*◌, ◌+◌, ◌-◌, ◌/◌, ◌<◌, ◌≡◌, ◌≤◌, ◌⊎◌}
 use Rattle.block_counts.specs.Counts.{block_number, complement_cover, replication_number}
 use Rattle.design_base.specs.Blocks.{IsBibd, IsGdd, IsPbd, IsTd}
 use Rattle.design_base.specs.declared.limits.TheConstants.{COVER_MAX, POINTS_MAX}

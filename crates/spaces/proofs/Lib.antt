@@ -14,3 +14,5 @@ pub mod LeastSteps
 pub mod WeightSteps
 pub mod Bounds
 pub mod ListedLines
+pub mod LineDesigns
+pub mod OwnForm
