@@ -1,6 +1,6 @@
 -- The points of a BIBD over the groups that the blocks through its last point are.
-use Rattle.std.proofs.Common.{Bool, List, None, Some, arith, inl, inr, length, not, subst, sym, ℕ, ◌*◌, ◌+◌, ◌-◌, ◌/◌, ◌<◌, ◌≡◌, ◌≤◌}
-use Rattle.std.proofs.Math.Nat.{div-add-mod'}
+use Rattle.std.proofs.Common.{Bool, List, None, Some, ap, arith, inl, inr, length, not, subst, sym, ℕ, ◌%◌, ◌*◌, ◌+◌, ◌-◌, ◌/◌, ◌<◌, ◌∙◌, ◌≡◌, ◌≤◌}
+use Rattle.std.proofs.Math.Nat.{div-add-mod', mul-div_cancel_left}
 use Rattle.std.proofs.lemmas.List.Elements.{All-from_recursion, All-weaker, recursion_from_All}
 use Rattle.std.specs.List.{position_or_len}
 use Rattle.std.proofs.lemmas.Bool.{cases_lt}
@@ -79,9 +79,17 @@ module _ (g u : ℕ) (B : List (List ℕ)) (can : CanDeleteLast g u B) where
   pub last_design : (rows : List (List ℕ)) → rows ≡ canonical (delete_last g u B) → IsGdd rows (g + 1) g u
   last_design rows is = subst (λ C. IsGdd C (g + 1) g u) (sym is) (delete_is_gdd g u B can.some can.design)
 
+-- all points are those of the groups of k - 1, and one more
+pub points_of_groups : (v k : ℕ) → 1 ≤ v → (v - 1) % (k - 1) ≡ 0 → v ≡ (k - 1) * ((v - 1) / (k - 1)) + 1
+points_of_groups v k some whole = omega (arith, div-add-mod' (v - 1) (k - 1), whole, some)
+
+-- and u groups and one point more leave u groups
+pub groups_of_points : (k u : ℕ) → 2 ≤ k → ((k - 1) * u + 1 - 1) / (k - 1) ≡ u
+groups_of_points k u two = ap (λ n. n / (k - 1)) (let e : (k - 1) * u + 1 - 1 ≡ (k - 1) * u = omega arith in e) ∙ mul-div_cancel_left u (let some : 0 < k - 1 = omega arith in some)
+
 module _ (v k : ℕ) (B : List (List ℕ)) (can : CanDeletePoint v k B) where
   area : v ≡ (k - 1) * ((v - 1) / (k - 1)) + 1
-  area = omega (arith, div-add-mod' (v - 1) (k - 1), can.whole, can.some)
+  area = points_of_groups v k (omega (arith, can.some)) can.whole
 
   size : k ≡ k - 1 + 1
   size = omega (arith, can.two)

@@ -27,8 +27,8 @@ fn below(alloc: Global, p: u16, design: &Rows) -> Result<Rows, Memory>
 
 /// A block design without its last point, which is a pairwise balanced design on `v` - 1 points.
 ///
-/// `design` has `v` points, from 1 to `POINTS_MAX`, and blocks of `s` + 1, from 2 on; two points stand together in one. The answer is `Memory`
-/// only for want of memory.
+/// `design` has `v` points, from 1 to `POINTS_MAX`, and blocks of `s` + 1, from 2 on; two points stand together in one. The answer is
+/// `Memory` only for want of memory.
 pub fn drop_point(alloc: Global, v: u16, s: u16, design: &Rows) -> Result<Rows, Memory>
     requires { CanDropPoint v s design.now }
     ensures blocks { IfOk result (λ rows. rows ≡ canonical (below_point (v - 1) design.now)) }
@@ -179,8 +179,9 @@ pub fn without_last(alloc: Global, g: u16, u: u16, design: &Rows) -> Result<Rows
 /// A block design without its last point and the blocks through it, which become groups: a group divisible design with
 /// (`v` - 1) / (`k` - 1) groups of `k` - 1 points.
 ///
-/// `design` has `v` points, from 2 to `POINTS_MAX`, and blocks of `k`, from 2 on, with `k` - 1 a divisor of `v` - 1; two points stand together in one.
-/// The groups come in the order of their blocks, and their points in the order of the block. The answer is `Memory` only for want of memory.
+/// `design` has `v` points, from 2 to `POINTS_MAX`, and blocks of `k`, from 2 on, with `k` - 1 a divisor of `v` - 1; two points stand together
+/// in one. The groups come in the order of their blocks, and their points in the order of the block. The answer is `Memory` only for want of
+/// memory.
 ///
 /// D. R. Stinson, Combinatorial Designs: Constructions and Analysis (2004), chapter 7.
 pub fn delete_point(alloc: Global, v: u16, k: u16, design: &Rows) -> Result<Rows, Memory>

@@ -113,8 +113,9 @@ fn weighted_by_one(
 /// Wilson's weighting, with one weight: each point of `master` becomes `w` points, and each block the blocks of `ingredient` on those of its
 /// points, which is a group divisible design with `u` groups of `g` points.
 ///
-/// `master` has `u` groups of `g` / `w` points and blocks of `s` points, from 2 on; `ingredient` has `s` groups of `w` points and blocks of `k` points,
-/// from 2 on. `w` is from 1 on and divides `g`, and `g` `u` and `w` `s` are at most `POINTS_MAX`. The answer is `Memory` only for want of memory.
+/// `master` has `u` groups of `g` / `w` points and blocks of `s` points, from 2 on; `ingredient` has `s` groups of `w` points and blocks of
+/// `k` points, from 2 on. `w` is from 1 on and divides `g`, and `g` `u` and `w` `s` are at most `POINTS_MAX`. The answer is `Memory` only for
+/// want of memory.
 ///
 /// R. M. Wilson, An existence theory for pairwise balanced designs I (1972); D. R. Stinson, Combinatorial Designs: Constructions and
 /// Analysis (2004), chapter 7.
@@ -175,10 +176,10 @@ fn extended(
 
 /// A pairwise balanced design whose points become `k` - 1 points each, which is a block design on (`k` - 1) `n` + 1 points.
 ///
-/// A block of `s` points becomes the blocks of `small` without its last point and the blocks through it, a block of `s` + 1 points those of `large`;
-/// and the points of each point, with one point more, are a block. `pbd` has `n` points, from 1 on, and `s` is from 2 on; `small` has (`k` - 1) `s` + 1
-/// points and `large` (`k` - 1) (`s` + 1) + 1, and blocks have `k`, from 2 on. All three numbers of points are at most `POINTS_MAX`. The answer is
-/// `Memory` only for want of memory.
+/// A block of `s` points becomes the blocks of `small` without its last point and the blocks through it, a block of `s` + 1 points those of
+/// `large`; and what each point became is, with one point more, a block. `pbd` has `n` points, from 1 on, and `s` is from 2 on; `small` has
+/// (`k` - 1) `s` + 1 points and `large` (`k` - 1) (`s` + 1) + 1, and blocks have `k`, from 2 on. The design and `large` have at most
+/// `POINTS_MAX` points. The answer is `Memory` only for want of memory.
 ///
 /// R. M. Wilson, An existence theory for pairwise balanced designs I (1972); D. R. Stinson, Combinatorial Designs: Constructions and
 /// Analysis (2004), chapter 7.

@@ -1,5 +1,5 @@
 -- The blocks of three points in which two points stand together twice.
-use Rattle.std.proofs.Common.{List, [], ap, arith, inl, inr, refl, subst, suc, sym, true, zero, ℕ, ◌%◌, ◌*◌, ◌++◌, ◌+◌, ◌/◌, ◌<◌, ◌==◌, ◌||◌, ◌∙◌, ◌∷◌, ◌≡◌, ◌≢◌, ◌≤◌}
+use Rattle.std.proofs.Common.{Bool, List, [], ap, arith, inl, inr, refl, subst, suc, sym, true, zero, ℕ, ◌%◌, ◌*◌, ◌++◌, ◌+◌, ◌/◌, ◌<◌, ◌==◌, ◌||◌, ◌∙◌, ◌∷◌, ◌≡◌, ◌≢◌, ◌≤◌}
 use Rattle.std.proofs.Math.Nat.{mod-lt}
 use Rattle.std.proofs.lemmas.Bool.{cases_eq, cases_lt, cond-false, cond-true, eq-eqb, ne_eqb}
 use Rattle.std.proofs.lemmas.Bool.Decides.{nat_tests}
@@ -129,13 +129,17 @@ below_six P a b c d e f (suc (suc (suc (suc zero)))) l = e
 below_six P a b c d e f (suc (suc (suc (suc (suc zero))))) l = f
 below_six P a b c d e f (suc (suc (suc (suc (suc (suc x)))))) l = absurd (omega arith)
 
-six_pairs : (x : ℕ) → x < 6 → (y : ℕ) → y < 6 → ((x == y) || (cover (six_point_blocks 5) x y == 2)) ≡ true
+-- two of the points stand together twice
+abbrev stand_twice : ℕ → ℕ → Bool
+stand_twice x y = (x == y) || (cover (six_point_blocks 5) x y == 2)
+
+six_pairs : (x : ℕ) → x < 6 → (y : ℕ) → y < 6 → stand_twice x y ≡ true
 unfolding six_point_blocks join_below cover holds
-six_pairs = below_six (λ x. (y : ℕ) → y < 6 → ((x == y) || (cover (six_point_blocks 5) x y == 2)) ≡ true) (line 0 refl refl refl refl refl refl) (line 1 refl refl refl refl refl refl) (line 2 refl refl refl refl refl refl)
-    (line 3 refl refl refl refl refl refl) (line 4 refl refl refl refl refl refl) (line 5 refl refl refl refl refl refl)
+six_pairs = below_six (λ x. (y : ℕ) → y < 6 → stand_twice x y ≡ true) (row 0 refl refl refl refl refl refl) (row 1 refl refl refl refl refl refl) (row 2 refl refl refl refl refl refl)
+    (row 3 refl refl refl refl refl refl) (row 4 refl refl refl refl refl refl) (row 5 refl refl refl refl refl refl)
   where
-    line : (x : ℕ) → ((x == 0) || (cover (six_point_blocks 5) x 0 == 2)) ≡ true → ((x == 1) || (cover (six_point_blocks 5) x 1 == 2)) ≡ true → ((x == 2) || (cover (six_point_blocks 5) x 2 == 2)) ≡ true → ((x == 3) || (cover (six_point_blocks 5) x 3 == 2)) ≡ true → ((x == 4) || (cover (six_point_blocks 5) x 4 == 2)) ≡ true → ((x == 5) || (cover (six_point_blocks 5) x 5 == 2)) ≡ true → (y : ℕ) → y < 6 → ((x == y) || (cover (six_point_blocks 5) x y == 2)) ≡ true
-    line x = below_six (λ y. ((x == y) || (cover (six_point_blocks 5) x y == 2)) ≡ true)
+    row : (x : ℕ) → stand_twice x 0 ≡ true → stand_twice x 1 ≡ true → stand_twice x 2 ≡ true → stand_twice x 3 ≡ true → stand_twice x 4 ≡ true → stand_twice x 5 ≡ true → (y : ℕ) → y < 6 → stand_twice x y ≡ true
+    row x = below_six (λ y. stand_twice x y ≡ true)
 
 -- what the test says
 told : (x y c : ℕ) → x < y → ((x == y) || (c == 2)) ≡ true → c ≡ 2

@@ -84,7 +84,7 @@ module _ (t : ℕ) (pos : 0 < t) where
         | inr d ↦ columns_none n t (omega arith) c ((c + 1) % 3) x y l m d
       ]
 
-  -- the last point stands with each point in one infinite_triple
+  -- the infinite point stands with each point once
   with_infinite : (c x : ℕ) → c < 3 → x < n → cover blocks (place n c x) (place n 3 0) ≡ 1
   unfolding levels
   with_infinite c x k l = omega (
