@@ -1,5 +1,6 @@
 pub mod Taken
 pub mod TdBlocks
+pub mod BibdBlocks
 pub mod Meeting
 pub mod Same
 pub mod Fine

@@ -1,5 +1,6 @@
 pub mod Same
 pub mod TdBlocks
+pub mod BibdBlocks
 pub mod Blocks
 pub mod AllMeet
 pub mod Derivations

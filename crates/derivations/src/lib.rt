@@ -1,6 +1,7 @@
 //! Derivations: the steps that lead to a design, what is wrong with a list of steps, and the design that it leads to.
 #![tactic(auto)]
 
+mod bibd;
 mod building;
 mod faults;
 mod laws;

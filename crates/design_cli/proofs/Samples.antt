@@ -4,7 +4,7 @@ use Rattle.std.specs.Fmt.{digits}
 use Rattle.std.specs.Prelude.{codes}
 use Rattle.design_base.specs.Steps.{step}
 use Rattle.design_base.specs.declared.query.Query.TheVariants.{Td, Bibd}
-use Rattle.design_base.specs.declared.rule.Rule.TheVariants.{Bose}
+use Rattle.design_base.specs.declared.rule.Rule.TheVariants.{Bose, Sum}
 use Rattle.design_base.specs.declared.verdict.Criterion.TheVariants.{Replication}
 use Rattle.design_base.specs.declared.verdict.Verdict.TheVariants.{Yes, No, Unknown}
 use Rattle.design_lines.specs.Grammar.{batch_lines, input_line, input_lines, other_lines, other_questions, parse, question, questions}
@@ -39,8 +39,11 @@ build_eight = refl
 no_is_final : is_final (Bibd 8 3 1) (No Replication) ≡ true
 no_is_final = refl
 
-yes_is_not_final : is_final (Bibd 9 3 1) (Yes (step Bose 0 0 0 0)) ≡ false
-yes_is_not_final = refl
+yes_is_final : is_final (Bibd 9 3 1) (Yes (step Bose 0 0 0 0)) ≡ true
+yes_is_final = refl
+
+sum_is_not_final : is_final (Bibd 7 3 2) (Yes (step Sum 1 0 0 0)) ≡ false
+sum_is_not_final = refl
 
 unknown_is_final : is_final (Td 4 6) Unknown ≡ true
 unknown_is_final = refl

@@ -1,9 +1,8 @@
 -- What the program answers: the lines on the output, and how the run ends.
 use Rattle.std.specs.Prelude.{ℕ, ◌-◌, ◌≡◌, ◌↔◌, Bool, true, false, nat_le, List, [], ◌∷◌, ◌++◌, length, map, Option, Some, None, Result, Ok, Err, String, string_bytes, if◌then◌else◌}
-use Rattle.chosen_designs.specs.Chosen.{blocks_at, chosen}
 use Rattle.criteria.specs.Criteria.{numbers_of}
 use Rattle.derivation_text.specs.Text.{derivation_lines}
-use Rattle.derivations.specs.Derivations.{derivation, line, replayed}
+use Rattle.derivations.specs.Derivations.{derivation, replayed}
 use Rattle.derivations.specs.declared.line.Line.{Line}
 use Rattle.design_base.specs.Arrays.{IsOa}
 use Rattle.design_base.specs.Limits.{in_bounds}
@@ -60,20 +59,10 @@ design_lines q shape (YesVerdict step) = built_lines q shape (derivation q) (rep
 design_lines q shape (NoVerdict criterion) = []
 design_lines q shape UnknownVerdict = []
 
--- the same of a verdict that is known without the table: a derivation of one line
-abbrev pub chosen_lines : Query → Shape → Verdict → List (List ℕ)
-chosen_lines q shape (YesVerdict step) = built_lines q shape (line q step [] ∷ []) (blocks_at q step)
-chosen_lines q shape (NoVerdict criterion) = []
-chosen_lines q shape UnknownVerdict = []
-
-abbrev pub chosen_report : Query → Shape → Option Verdict → Report
-chosen_report q shape (Some told) = verdict_report q told (chosen_lines q shape told)
-chosen_report q shape None = silent NotBuilt
-
--- the answer to `build`: the verdict, and for yes its design
+-- the answer to `build`: the verdict, where it is final, and for yes its design
 abbrev pub build_report : Query → Shape → Option Verdict → Report
 build_report q shape (Some told) = verdict_report q told (design_lines q shape told)
-build_report q shape None = chosen_report q shape (chosen q)
+build_report q shape None = silent NotBuilt
 
 -- the lines of a text checked in the shape that is asked for
 abbrev pub text_report : Query → Shape → BlockText → Report

@@ -1,6 +1,5 @@
 //! The top call.
 ghost use Rattle.std.specs.Prelude.{◌≡◌, ◌≢◌, ◌↔◌, IfNone, IfSome, Ok, false, true};
-ghost use Rattle.chosen_designs.specs.Chosen.{EachChosenIsDesigned};
 ghost use Rattle.design_cli.specs.Decided.{EachNoHasNone, EachYesIsDesigned};
 ghost use Rattle.design_cli.specs.Report.{EachValidAreSquares, EachValidIsArray, EachValidIsDesign, IsRefused, command_of, reads_input, takes_memory, unread_report};
 ghost use Rattle.design_cli.specs.Runs.{Answers, RunsOn};
@@ -108,7 +107,7 @@ fn answer<S: Source, K: Sink, L: Ledger>(
 
 /// Answers the words of a command line: writes the report on `out`, and at most one line on `err`, and says how that
 /// ended. The input is read only where the words ask for a check. `steps` counts the evaluations that are begun.
-#[tactic(auto, using(crate::proofs::Designed::each_yes_is_designed, crate::proofs::Designed::each_no_has_none, crate::proofs::Designed::each_valid_is_design, crate::proofs::Designed::each_valid_is_array, crate::proofs::Designed::each_valid_are_squares, chosen_designs::proofs::Choices::each_chosen_is_designed))]
+#[tactic(auto, using(crate::proofs::Designed::each_yes_is_designed, crate::proofs::Designed::each_no_has_none, crate::proofs::Designed::each_valid_is_design, crate::proofs::Designed::each_valid_is_array, crate::proofs::Designed::each_valid_are_squares))]
 pub fn run<S: Source, K: Sink, E: Sink, L: Ledger>(
     alloc: Global,
     words: &[String],
@@ -124,7 +123,6 @@ pub fn run<S: Source, K: Sink, E: Sink, L: Ledger>(
     // The blocks of a yes are such a design, a no of the table of rules means that there is none, and exactly the blocks of
     // such designs are found valid.
     ensures design { EachYesIsDesigned }
-    ensures chosen { EachChosenIsDesigned }
     ensures none { EachNoHasNone }
     ensures valid { EachValidIsDesign }
     ensures valid_rows { EachValidIsArray }

@@ -1,13 +1,12 @@
 //! The answer to `build`: the verdict, and for yes its derivation and its blocks.
 ghost use Rattle.std.specs.Prelude.{◌≡◌, ◌≢◌, ◌↔◌, ◌++◌, Some, true};
 ghost use Rattle.std.specs.List.{flat_map};
-ghost use Rattle.chosen_designs.specs.Chosen.{chosen as chosen_verdict};
 ghost use Rattle.derivation_text.specs.Text.{derivation_lines};
 ghost use Rattle.design_base.specs.Limits.{in_bounds};
 ghost use Rattle.design_base.specs.Meets.{Meets};
 ghost use Rattle.design_cli.specs.Decided.{decided};
 ghost use Rattle.derivations.specs.Spelled.{ArePrintable};
-ghost use Rattle.design_cli.specs.Report.{IsRefused, build_report, built_lines, chosen_report};
+ghost use Rattle.design_cli.specs.Report.{IsRefused, build_report, built_lines};
 ghost use Rattle.design_io.specs.Faults.{HasCause};
 ghost use Rattle.design_io.specs.Pieces.{AppendsWhole};
 ghost use Rattle.design_reports.specs.Answers.{EndsWith, HasFault, IsAnswer};
@@ -18,9 +17,7 @@ ghost use Rattle.design_reports.specs.Texts.{verdict_line as verdict_text};
 ghost use Rattle.rule_table.specs.Verdicts.{verdict as verdict_of};
 
 use crate::asking::answer_verdict;
-use crate::choosing::chosen_design;
 use crate::oracle::{Design, Oracle};
-use chosen_designs::chosen;
 use derivation_text::print_v1;
 use derivations::Derivation;
 use design_base::{Query, Step, Verdict};
@@ -101,28 +98,7 @@ fn build_decided<K: Sink, A: Asker + Drop, L: Ledger>(
     answer_design(oracle.alloc(), query, shape, &step, design, out)
 }
 
-// Builds a question whose verdict is known without the table of rules.
-fn build_chosen<K: Sink>(alloc: Global, query: &Query, shape: Shape, out: &mut K) -> Ending
-    requires { in_bounds query.now ≡ true }
-    ensures ends { EndsWith (chosen_report query.now shape (chosen_verdict query.now)) result (K.held out.old) (K.held out.new) }
-    ensures cause { HasFault result (K.faults out.old) (K.faults out.new) }
-    ensures no_read { result ≢ Ending.ReadFault }
-    ensures usage { (status_of result ≡ Status.Usage) ↔ IsRefused (chosen_report query.now shape (chosen_verdict query.now)) }
-{
-    let Some(verdict) = chosen(query) else {
-        return Ending::NotBuilt;
-    };
-    let Verdict::Yes(step) = verdict else {
-        return answer_verdict(query, &verdict, out);
-    };
-    let Ok(design) = chosen_design(alloc, query, &step) else {
-        return Ending::NoMemory;
-    };
-    answer_design(alloc, query, shape, &step, design, out)
-}
-
-/// Answers `build` on a question in bounds: the verdict, where it is final or else known without the table of rules, and for
-/// yes its design.
+/// Answers `build` on a question in bounds: the verdict, where it is final, and for yes its design.
 pub fn answer_build<K: Sink, A: Asker + Drop, L: Ledger>(
     query: &Query,
     shape: Shape,
@@ -136,7 +112,7 @@ pub fn answer_build<K: Sink, A: Asker + Drop, L: Ledger>(
     ensures usage { (status_of result ≡ Status.Usage) ↔ IsRefused (build_report query.now shape (decided query.now)) }
 {
     let Some(verdict) = oracle.decided(query) else {
-        return build_chosen(oracle.alloc(), query, shape, out);
+        return Ending::NotBuilt;
     };
     build_decided(query, shape, verdict, oracle, out)
 }

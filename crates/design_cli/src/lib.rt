@@ -6,7 +6,6 @@ mod asking;
 mod blocks;
 mod building;
 mod checking;
-mod choosing;
 mod oracle;
 
 pub use answering::run;

@@ -4,12 +4,12 @@ ghost use Rattle.derivations.specs.Derivations.{IsSound, derivation, replayed};
 ghost use Rattle.design_base.specs.Limits.{in_bounds};
 ghost use Rattle.design_base.specs.Meets.{Meets};
 ghost use Rattle.design_base.specs.declared.verdict.Verdict.TheVariants.{Yes};
-ghost use Rattle.design_cli.specs.Decided.{decided, is_final as is_final_of};
+ghost use Rattle.design_cli.specs.Decided.{decided, is_final as is_final_of, stays as yes_stays};
 ghost use Rattle.derivations.specs.Spelled.{ArePrintable};
 ghost use Rattle.rule_table.specs.Verdicts.{verdict as verdict_of};
 
 use derivations::{Derivation, ReplayEnd, derive, replay};
-use design_base::{Memory, Query, Step, Verdict};
+use design_base::{Memory, Query, Rule, Step, Verdict};
 use incidence::Rows;
 use rule_table::{Asker, Steps, Tools};
 use std::alloc::Global;
@@ -32,6 +32,13 @@ pub struct Oracle<'a, A: Asker + Drop, L: Ledger> {
     steps: &'a mut Steps<L>,
 }
 
+// Whether a yes on a block design stays.
+fn stays(v: u16, k: u16, l: u16, step: &Step) -> bool
+    ensures { result ≡ yes_stays v k l step.now }
+{
+    step.rule.number() <= Rule::Projective.number() || (k == 3 && !(v == 7 && l == 2))
+}
+
 // Whether a verdict stays whatever rules are still to come.
 fn is_final(query: &Query, verdict: &Verdict) -> bool
     ensures { result ≡ is_final_of query.now verdict.now }
@@ -39,6 +46,7 @@ fn is_final(query: &Query, verdict: &Verdict) -> bool
     match (verdict, query) {
         (Verdict::No(_), _) => true,
         (_, Query::Td { .. }) => true,
+        (Verdict::Yes(step), Query::Bibd { v, k, l }) => stays(*v, *k, *l, step),
         _ => false,
     }
 }

@@ -59,6 +59,45 @@ fn holds(alloc: Global, row: &Case) -> Result<bool, AllocError> {
 
 const FANO: &str = "0 1 3\n1 2 4\n2 3 5\n3 4 6\n0 4 5\n1 5 6\n0 2 6\n";
 
+const DOUBLE_6: &str = "bibd 6 3 2 yes double
+derivation 1
+1 bibd 6 3 2 double
+end 1
+blocks 10
+0 1 2
+0 1 4
+0 2 5
+0 3 4
+0 3 5
+1 2 3
+1 3 5
+1 4 5
+2 3 4
+2 4 5
+";
+
+const SKOLEM_7: &str = "bibd 7 3 1 yes skolem
+derivation 1
+1 bibd 7 3 1 skolem
+end 1
+blocks 7
+0 1 3
+0 2 4
+0 5 6
+1 2 6
+1 4 5
+2 3 5
+3 4 6
+";
+
+const SUM_9: &str = "bibd 9 3 4 yes sum 1
+derivation 1
+1 bibd 9 3 1 bose
+2 bibd 9 3 3 middle
+3 bibd 9 3 4 sum 1 from 1 2
+end 3
+";
+
 const PLANE_3: &str = "bibd 13 4 1 yes projective 3 2
 derivation 1
 1 bibd 13 4 1 projective 3 2
@@ -134,7 +173,7 @@ fn words_are_refused(rt: HostRuntime) -> Result<(), Fail> {
         ("ask bibd 9 3", "usage: missing word at 5\n"),
         ("ask td 3 4 5", "usage: surplus word at 5\n"),
         ("check mols 4 65534", "usage: out of bounds\n"),
-        ("build bibd 7 3 1", "usage: not built\n"),
+        ("build bibd 7 3 2", "usage: not built\n"),
         ("ask df z 13 3 1", "usage: not built\n"),
         ("explain gdd 3 2 3", "usage: not built\n"),
         ("closure td 5 4", "usage: not built\n"),
@@ -171,6 +210,7 @@ fn designs_are_built(rt: HostRuntime) -> Result<(), Fail> {
 #[test]
 fn criteria_refuse_questions(rt: HostRuntime) -> Result<(), Fail> {
     for (words, output) in [
+        ("ask bibd 8 3 5", "bibd 8 3 5 no replication\n"),
         ("ask bibd 5 3 1", "bibd 5 3 1 no count\n"),
         ("ask bibd 16 6 1", "bibd 16 6 1 no fisher\n"),
         ("ask bibd 36 15 1", "bibd 36 15 1 no replication\n"),
@@ -195,6 +235,26 @@ fn criteria_refuse_questions(rt: HostRuntime) -> Result<(), Fail> {
         ("explain pbd 7 5", "pbd 7 5 no points\nbecause 6 5\n"),
     ] {
         let right = holds(rt.alloc(), &told(words, "", output, "", 1))?;
+        assert!(rt; right, "at {words}");
+    }
+    Ok(())
+}
+
+#[test]
+fn block_designs_are_decided(rt: HostRuntime) -> Result<(), Fail> {
+    for (words, output) in [
+        ("ask bibd 8 3 6", "bibd 8 3 6 yes ordered\n"),
+        ("ask bibd 128 2 6", "bibd 128 2 6 yes pairs\n"),
+        ("ask plane 3", "bibd 13 4 1 yes projective 3 2\n"),
+        (
+            "build bibd 3 3 1",
+            "bibd 3 3 1 yes whole\nderivation 1\n1 bibd 3 3 1 whole\nend 1\nblocks 1\n0 1 2\n",
+        ),
+        ("build bibd 6 3 2", DOUBLE_6),
+        ("build sts 7", SKOLEM_7),
+        ("explain bibd 9 3 4", SUM_9),
+    ] {
+        let right = holds(rt.alloc(), &told(words, "", output, "", 0))?;
         assert!(rt; right, "at {words}");
     }
     Ok(())

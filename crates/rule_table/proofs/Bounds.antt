@@ -1,8 +1,8 @@
 -- What it says of numbers that a question is in bounds.
 use Rattle.std.proofs.Common.{◌≡◌, ℕ, ◌≤◌, Bool, true, false, ◌&&◌, arith, refl}
 use Rattle.std.proofs.lemmas.Bool.Decides.{nat_tests}
-use Rattle.design_base.specs.declared.limits.TheConstants.{TD_K_MAX, TD_N_MAX}
-use Rattle.design_base.specs.declared.query.Query.TheVariants.{Td}
+use Rattle.design_base.specs.declared.limits.TheConstants.{COVER_MAX, POINTS_MAX, TD_K_MAX, TD_N_MAX}
+use Rattle.design_base.specs.declared.query.Query.TheVariants.{Bibd, Td}
 use Rattle.design_base.specs.Limits.{in_bounds}
 
 pub both : (a b : Bool) → (a && b) ≡ true → (a ≡ true) × (b ≡ true)
@@ -22,4 +22,21 @@ td_bounds k n e = record {
   narrow = grind (arith, nat_tests);
   points = grind (arith, nat_tests);
   few = grind (arith, nat_tests);
+}
+
+pub record IsBibdInBounds (v k l : ℕ) : Type 0 where
+  pub least : 2 ≤ k
+  pub block : k ≤ v
+  pub points : v ≤ POINTS_MAX
+  pub some : 1 ≤ l
+  pub cover : l ≤ COVER_MAX
+
+pub bibd_bounds : (v k l : ℕ) → in_bounds (Bibd v k l) ≡ true → IsBibdInBounds v k l
+unfolding in_bounds
+bibd_bounds v k l e = record {
+  least = grind (arith, nat_tests);
+  block = grind (arith, nat_tests);
+  points = grind (arith, nat_tests);
+  some = grind (arith, nat_tests);
+  cover = grind (arith, nat_tests);
 }

@@ -1,3 +1,4 @@
+pub mod BibdRules
 pub mod Bounds
 pub mod Chosen
 pub mod Each
@@ -6,8 +7,11 @@ pub mod Followed
 pub mod Grounded
 pub mod Members
 pub mod Passing
+pub mod PointCounts
+pub mod Proved
 pub mod Rules
 mod Samples
+pub mod Settled
 pub mod Spelled
 pub mod TdRules
 pub mod Told

@@ -7,6 +7,7 @@ use Rattle.design_base.specs.Limits.{in_bounds}
 use Rattle.design_base.specs.Rules.{title}
 use Rattle.rule_table.specs.Rank.{rank}
 use Rattle.rule_table.specs.Table.{terms}
+use Rattle.rule_table.proofs.BibdRules.{bibd_grounded}
 use Rattle.rule_table.proofs.Grounded.{IsGrounded}
 use Rattle.rule_table.proofs.TdRules.{td_grounded}
 
@@ -14,6 +15,6 @@ pub grounded : (q : Query) → in_bounds q ≡ true → (r : Rule) → IsGrounde
 unfolding terms rank
 grounded (Td k n) b r = td_grounded k n r
 grounded (Df group v k l) b r = λ c. cc
-grounded (Bibd v k l) b r = λ c. cc
+grounded (Bibd v k l) b r = bibd_grounded v k l b r
 grounded (Gdd k g u) b r = λ c. cc
 grounded (Pbd v s) b r = λ c. cc

@@ -3,10 +3,13 @@
 
 mod allowed;
 mod asker;
+mod bibd;
 mod candidates;
 mod evaluation;
 mod inquiry;
+mod laws;
 mod next;
+mod sizes;
 mod steps;
 mod table;
 mod taken;
@@ -20,6 +23,7 @@ pub use allowed::{is_candidate, premises};
 pub use asker::{Asker, PlainAsker};
 pub use candidates::Candidates;
 pub use evaluation::Evaluation;
+pub use laws::rule_laws;
 pub use steps::Steps;
 pub use tools::Tools;
 pub use turn::Turn;

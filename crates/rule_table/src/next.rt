@@ -1,4 +1,5 @@
-ghost use Rattle.std.specs.Prelude.{◌≡◌, ◌≤◌, ◌-◌, ◌*◌, ◌/◌, [], length};
+ghost use Rattle.std.specs.Prelude.{◌≡◌, ◌<◌, ◌≤◌, ◌-◌, ◌*◌, ◌/◌, [], length};
+ghost use Rattle.counting.specs.Division.{divides as divides_it};
 ghost use Rattle.design_base.specs.declared.limits.TheConstants.{PREMISES_MAX};
 ghost use Rattle.rule_table.specs.Nexts.{IsNext, IsFew, Takes};
 ghost use Rattle.rule_table.specs.Terms.{when◌asks◌};
@@ -49,6 +50,14 @@ pub(crate) fn only(x: u16) -> Next
     ensures { Takes x x result }
 {
     from_to(x, x)
+}
+
+// Whether d, which is not 0, divides n.
+pub(crate) fn divides(d: u16, n: u16) -> bool
+    requires { 0 < d }
+    ensures { result ≡ divides_it d n }
+{
+    n % d == 0
 }
 
 // The product.

@@ -6,6 +6,7 @@ ghost use Rattle.rule_table.specs.Table.{terms};
 ghost use Rattle.rule_table.specs.Takens.{listed, IsSmall};
 ghost use Rattle.rule_table.specs.Walks.{terms_at};
 
+use crate::bibd::bibd_next;
 use crate::next::Next;
 use crate::taken::Taken;
 use crate::td::td_next;
@@ -23,8 +24,8 @@ pub(crate) fn next_of(tools: &Tools, q: &Query, rule: Rule, taken: Taken) -> Nex
 {
     match *q {
         Query::Td { k, n } => td_next(tools.alloc(), k, n, rule, taken),
+        Query::Bibd { v, k, l } => bibd_next(tools.alloc(), v, k, l, rule, taken),
         // Their rules are not stated yet.
-        Query::Df { .. } | Query::Bibd { .. } | Query::Gdd { .. } | Query::Pbd { .. } =>
-            Next::Nothing,
+        Query::Df { .. } | Query::Gdd { .. } | Query::Pbd { .. } => Next::Nothing,
     }
 }

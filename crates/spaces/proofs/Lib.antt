@@ -14,3 +14,5 @@ pub mod LeastSteps
 pub mod CoefficientSteps
 pub mod Bounds
 pub mod ListedLines
+pub mod LineDesigns
+pub mod OwnForm

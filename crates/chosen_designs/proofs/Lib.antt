@@ -1,3 +1,0 @@
-pub mod LineDesigns
-pub mod Choices
-pub mod Sizes

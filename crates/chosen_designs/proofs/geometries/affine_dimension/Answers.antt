@@ -1,9 +1,0 @@
-use Rattle.std.proofs.Common.{arith, ◌∙◌}
-use Rattle.chosen_designs.proofs.Sizes.{affine_from, affine_small}
-use Rattle.chosen_designs.proofs.geometries.affine_dimension.Goals as goal
-
-pub overflow_mul-last : goal.overflow_mul-last
-overflow_mul-last c = omega (arith, affine_small c.from-q.result (omega (arith, c.from-q.ensures, c.requires)))
-
-pub returns-clause-least : goal.returns-clause-least
-returns-clause-least c = c.dimension.ensures.first ∙ affine_from c.args.v c.args.q c.from-q.result c.from-q.ensures
