@@ -4,7 +4,7 @@ use Rattle.std.specs.Prelude.{None}
 use Rattle.counting.specs.Search.{each_passes, first_in, is_among}
 use Rattle.counting.specs.Sorting.{insert_by, sort_by}
 use Rattle.counting.specs.Sums.{join_below}
-use Rattle.criteria.specs.Criteria.{comparisons, comparison_of}
+use Rattle.criteria.specs.Criteria.{reasons, reason_of}
 use Rattle.design_base.specs.Arrays.{blocks_of_rows, place, row_block}
 use Rattle.design_base.specs.Canonical.{canonical, lex_le}
 use Rattle.design_base.specs.Fields.{moduli, modulus_of}

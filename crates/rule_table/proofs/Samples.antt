@@ -40,7 +40,7 @@ unfolding verdict verdict_below judged reasons reason_of candidates terms td_ter
 verdict_of_six = refl
 
 verdict_of_five_and_two : verdict (Td 5 2) ≡ No Groups
-unfolding verdict verdict_below judged comparisons comparison_of first_in rank
+unfolding verdict verdict_below judged reasons reason_of first_in rank
 verdict_of_five_and_two = refl
 
 verdict_of_eighteen : verdict (Td 4 18) ≡ Yes (step Wilson1 3 5 3 0)

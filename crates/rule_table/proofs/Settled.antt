@@ -15,7 +15,7 @@ use Rattle.design_base.specs.declared.verdict.Verdict.TheVariants.{No, Unknown}
 use Rattle.design_base.specs.Limits.{in_bounds}
 use Rattle.design_base.specs.Steps.{step}
 use Rattle.block_counts.specs.Counts.{replication_number}
-use Rattle.criteria.specs.Criteria.{comparisons, comparison_of, criterion_of}
+use Rattle.criteria.specs.Criteria.{reasons, reason_of, criterion_of}
 use Rattle.criteria.specs.declared.table.Comparison.{Comparison}
 use Rattle.rule_table.specs.BibdTerms.{bibd_terms}
 use Rattle.rule_table.specs.Candidates.{is_candidate, premises}
@@ -39,7 +39,7 @@ passed_over false false c x y z e = (refl, refl)
 
 -- none applies
 unbroken : (v k l : ℕ) → l * (v - 1) % (k - 1) ≡ 0 → v * replication_number v k l % k ≡ 0 → (k < v → k ≤ replication_number v k l) → criterion_of (Bibd v k l) ≡ None
-unfolding comparisons comparison_of
+unfolding reasons reason_of
 unbroken v k l replication count fisher =
     ap (option_map (λ r. r.criterion)) (none_found _ _ _ _ _ _ (divided _ replication) (divided _ count) (enough k v (replication_number v k l) fisher))
   where
@@ -51,7 +51,7 @@ unbroken v k l replication count fisher =
 
 -- both numbers divide
 divided : (v k l : ℕ) → criterion_of (Bibd v k l) ≡ None → (l * (v - 1) % (k - 1) ≡ 0) × (v * replication_number v k l % k ≡ 0)
-unfolding comparisons comparison_of
+unfolding reasons reason_of
 divided v k l e = let p = passed_over _ _ _ _ _ _ e in (none _ p.0, none _ p.1)
   where
     none : (n : ℕ) → not (n == 0) ≡ false → n ≡ 0
