@@ -18,4 +18,6 @@ pub use replaying::replay;
 pub use unfolding::derive;
 
 #[cfg(test)]
+mod bibd_tests;
+#[cfg(test)]
 mod tests;
