@@ -8,19 +8,17 @@ use std::process::Abort;
 use std::sync::ledger::{Blank, Ledger};
 use std::test::Fail;
 
-// The verdict of the transversal design with k groups of n points, evaluated and asked.
+// The verdict of a question, evaluated and asked.
 fn assert_verdict<L: Ledger>(
     rt: &impl Abort,
     tools: &Tools,
     steps: &mut Steps<L>,
-    k: u16,
-    n: u16,
+    q: &Query,
     verdict: &Verdict,
 ) {
-    let q = Query::Td { k, n };
-    assert!(rt; in_bounds(&q));
-    assert_eq!(rt; evaluate(&q, tools, steps), *verdict);
-    assert_eq!(rt; PlainAsker.ask(&q, tools, steps), *verdict);
+    assert!(rt; in_bounds(q));
+    assert_eq!(rt; evaluate(q, tools, steps), *verdict);
+    assert_eq!(rt; PlainAsker.ask(q, tools, steps), *verdict);
 }
 
 // Those of several.
@@ -31,10 +29,22 @@ fn assert_verdicts<L: Ledger>(rt: &impl Abort, tools: &Tools, blank: Blank)
 {
     let mut steps = Steps::<L>::new(blank);
     for (k, n) in [(4, 2), (5, 3), (6, 4), (66, 64)] {
-        assert_verdict(rt, tools, &mut steps, k, n, &Verdict::No(Criterion::Groups));
+        assert_verdict(
+            rt,
+            tools,
+            &mut steps,
+            &Query::Td { k, n },
+            &Verdict::No(Criterion::Groups),
+        );
     }
     for (k, n) in [(4, 6), (4, 14), (5, 12)] {
-        assert_verdict(rt, tools, &mut steps, k, n, &Verdict::Unknown);
+        assert_verdict(
+            rt,
+            tools,
+            &mut steps,
+            &Query::Td { k, n },
+            &Verdict::Unknown,
+        );
     }
     for (k, n, step) in [
         (2, 1, Step::new(Rule::TdOne, 0, 0, 0, 0)),
@@ -51,8 +61,58 @@ fn assert_verdicts<L: Ledger>(rt: &impl Abort, tools: &Tools, blank: Blank)
         (5, 58, Step::new(Rule::Wilson2, 7, 7, 5, 4)),
         (6, 51, Step::new(Rule::Wilson2, 7, 7, 1, 1)),
     ] {
-        assert_verdict(rt, tools, &mut steps, k, n, &Verdict::Yes(step));
+        assert_verdict(
+            rt,
+            tools,
+            &mut steps,
+            &Query::Td { k, n },
+            &Verdict::Yes(step),
+        );
     }
+}
+
+// Those of block designs.
+fn assert_block_designs<L: Ledger>(rt: &impl Abort, tools: &Tools, blank: Blank)
+    requires name { L.name ≡ blank.name }
+    requires parts { L.parts ≡ blank.parts }
+    requires some { 0 < blank.parts }
+{
+    let mut steps = Steps::<L>::new(blank);
+    let yes = |rule: Rule| Verdict::Yes(Step::new(rule, 0, 0, 0, 0));
+    for (v, k, l, verdict) in [
+        (3, 3, 1, yes(Rule::Whole)),
+        (128, 2, 6, yes(Rule::Pairs)),
+        (8, 7, 6, yes(Rule::Omit)),
+        (9, 3, 1, yes(Rule::Bose)),
+        (7, 3, 1, yes(Rule::Skolem)),
+        (6, 3, 2, yes(Rule::Double)),
+        (5, 3, 3, yes(Rule::Middle)),
+        (8, 3, 6, yes(Rule::Ordered)),
+        (64, 4, 1, Verdict::Yes(Step::new(Rule::Affine, 4, 3, 0, 0))),
+        (
+            13,
+            4,
+            1,
+            Verdict::Yes(Step::new(Rule::Projective, 3, 2, 0, 0)),
+        ),
+        (7, 3, 2, Verdict::Yes(Step::new(Rule::Sum, 1, 0, 0, 0))),
+        (9, 3, 4, Verdict::Yes(Step::new(Rule::Sum, 1, 0, 0, 0))),
+        (9, 6, 5, yes(Rule::Complement)),
+        (8, 3, 5, Verdict::No(Criterion::Replication)),
+        (5, 3, 1, Verdict::No(Criterion::Count)),
+        (16, 6, 1, Verdict::No(Criterion::Fisher)),
+        (15, 5, 2, Verdict::Unknown),
+        (43, 7, 1, Verdict::Unknown),
+    ] {
+        assert_verdict(rt, tools, &mut steps, &Query::Bibd { v, k, l }, &verdict);
+    }
+}
+
+#[test]
+fn verdicts_of_block_designs(rt: HostRuntime) -> Result<(), Fail> {
+    let tools = Tools::new(rt.alloc());
+    assert_block_designs::<Brand>(&rt, &tools, Blank::new(1));
+    Ok(())
 }
 
 #[test]

@@ -32,4 +32,6 @@ pub use verdicts::evaluate;
 #[cfg(test)]
 mod asked_tests;
 #[cfg(test)]
+mod bibd_tests;
+#[cfg(test)]
 mod tests;

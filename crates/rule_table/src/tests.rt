@@ -9,7 +9,7 @@ fn td(k: u16, n: u16) -> Query {
 }
 
 // These are the candidates, in this order.
-fn assert_candidates(rt: &impl Abort, tools: &Tools, q: &Query, steps: &[Step]) {
+pub(crate) fn assert_candidates(rt: &impl Abort, tools: &Tools, q: &Query, steps: &[Step]) {
     assert!(rt; in_bounds(q));
     let mut found = 0;
     for step in Candidates::new(tools, q) {
@@ -22,14 +22,20 @@ fn assert_candidates(rt: &impl Abort, tools: &Tools, q: &Query, steps: &[Step]) 
 }
 
 // These are the premises of the candidate, in this order.
-fn assert_premises(rt: &impl Abort, tools: &Tools, q: &Query, step: &Step, questions: &[Query]) {
+pub(crate) fn assert_premises(
+    rt: &impl Abort,
+    tools: &Tools,
+    q: &Query,
+    step: &Step,
+    questions: &[Query],
+) {
     assert!(rt; in_bounds(q));
     assert!(rt; is_candidate(tools, q, step));
     assert_eq!(rt; premises(tools, q, step).as_slice(), questions);
 }
 
 // The step is no candidate.
-fn assert_none(rt: &impl Abort, tools: &Tools, q: &Query, step: &Step) {
+pub(crate) fn assert_none(rt: &impl Abort, tools: &Tools, q: &Query, step: &Step) {
     assert!(rt; in_bounds(q));
     assert!(rt; !is_candidate(tools, q, step));
 }
