@@ -4,7 +4,7 @@ use incidence::Rows;
 use std::process::Abort;
 use std::test::Fail;
 use transversal::cyclic;
-use triple_systems::{bose, skolem};
+use triple_systems::{bose, middle, ordered, skolem};
 
 // Each row stands in the list behind its length.
 fn assert_rows(rt: &impl Abort, rows: &Rows, list: &[u16]) {
@@ -17,6 +17,28 @@ fn assert_rows(rt: &impl Abort, rows: &Rows, list: &[u16]) {
         at += row.len() + 1;
     }
     assert_eq!(rt; at, list.len());
+}
+
+// Each two of v points stand together l times in the triples.
+fn assert_triples(rt: &impl Abort, rows: &Rows, v: u16, l: u64) {
+    let pairs = u64::from(v) * u64::from(v.saturating_sub(1)) / 2;
+    assert_eq!(rt;
+        (rows.len() as u64).saturating_mul(3),
+        pairs.saturating_mul(l)
+    );
+}
+
+#[test]
+fn triple_systems_of_each_order(rt: HostRuntime) -> Result<(), Fail> {
+    for t in 0..21 {
+        assert_triples(&rt, &bose(rt.alloc(), 6 * t + 3)?, 6 * t + 3, 1);
+        assert_triples(&rt, &skolem(rt.alloc(), 6 * t + 7)?, 6 * t + 7, 1);
+    }
+    for t in 1..64 {
+        assert_triples(&rt, &middle(rt.alloc(), 2 * t + 1)?, 2 * t + 1, 3);
+        assert_triples(&rt, &ordered(rt.alloc(), 2 * t + 2)?, 2 * t + 2, 6);
+    }
+    Ok(())
 }
 
 #[test]
