@@ -3,12 +3,8 @@ use Rattle.std.proofs.Common.{List, [], ap, ap₂, arith, get_or, inl, inr, leng
 use Rattle.std.proofs.lemmas.Bool.{cases_eq}
 use Rattle.std.proofs.lemmas.List.{get_or-append-add, get_or_append_left, length-append}
 use Rattle.std.proofs.lemmas.Nat.{mul-add-lt}
+use Rattle.counting.proofs.Ranges.{join_below-same}
 use Rattle.counting.specs.Sums.{join_below, list_below}
-
-pub join_below-same : {X : Type 0} (n : ℕ) (f g : ℕ → List X) → ((i : ℕ) → i < n → f i ≡ g i) → join_below n f ≡ join_below n g
-unfolding join_below
-join_below-same zero f g h = refl
-join_below-same (suc n) f g h = ap₂ (λ xs ys. xs ++ ys) (join_below-same n f g (λ i l. h i (omega arith))) (h n (omega arith))
 
 pub list_below-same : {X : Type 0} (n : ℕ) (f g : ℕ → X) → ((i : ℕ) → i < n → f i ≡ g i) → list_below n f ≡ list_below n g
 list_below-same n f g h = join_below-same n (λ i. f i ∷ []) (λ i. g i ∷ []) (λ i l. ap (λ x. x ∷ []) (h i l))

@@ -7,7 +7,7 @@ use Rattle.std.proofs.lemmas.Nat.{mul-add-lt}
 use Rattle.std.specs.Prelude.{All}
 use Rattle.counting.proofs.Counts.{both_equal, both_equal-from, grid_one, one-false, sum_below-at, sum_below-same, sum_below-zero}
 use Rattle.counting.proofs.Lists.{sum_by-join_below, sum_by-single}
-use Rattle.counting.proofs.Ranges.{All-join_below, each_below, get_or-list_below, length-list_below}
+use Rattle.counting.proofs.Ranges.{All-join_below, each_below, get_or-list_below, join_below-same, length-list_below}
 use Rattle.counting.specs.Sums.{list_below, one, sum_below}
 use Rattle.design_base.proofs.Rows.{agree-is, oa_from_pairs}
 use Rattle.design_base.specs.Arrays.{IsOa, IsRow, agree, blocks_of_rows}
@@ -16,7 +16,7 @@ use Rattle.design_base.specs.Canonical.{canonical}
 use Rattle.design_base.specs.Squares.{IsMols, cell}
 use Rattle.arrays.specs.Arrays.{row_at, row_of_cell, rows_of_squares, squares_of_rows}
 use Rattle.arrays.proofs.Cells.{row_at-begins, row_at_row}
-use Rattle.arrays.proofs.Joined.{get_or-join_below, join_below-same, length-join_below, list_below-same}
+use Rattle.arrays.proofs.Joined.{get_or-join_below, length-join_below, list_below-same}
 use Rattle.arrays.proofs.Ordered.{by_cells, sort_by-is}
 use Rattle.arrays.proofs.Passages.{oa-sort_by, td_iff_oa}
 

@@ -1,6 +1,6 @@
 -- The rows and the squares of a transversal design.
 use Rattle.std.proofs.Common.{List, [], ap, arith, get_or, length, refl, subst, sym, ℕ, ◌+◌, ◌-◌, ◌∙◌, ◌≡◌}
-use Rattle.counting.proofs.Ranges.{length-list_below}
+use Rattle.counting.proofs.Ranges.{join_below-same, length-list_below}
 use Rattle.counting.specs.Sorting.{sort_by}
 use Rattle.counting.specs.Sums.{join_below}
 use Rattle.design_base.proofs.Groups.{oa_from_td}
@@ -10,7 +10,7 @@ use Rattle.design_base.specs.Canonical.{lex_le}
 use Rattle.design_base.specs.Squares.{IsMols}
 use Rattle.arrays.specs.Arrays.{row_of_column, rows_of_td, square_of_column, squares_of_rows}
 use Rattle.arrays.proofs.Bounds.{TdBounds}
-use Rattle.arrays.proofs.Joined.{join_below-same, list_below-same}
+use Rattle.arrays.proofs.Joined.{list_below-same}
 use Rattle.arrays.proofs.Ordered.{by_cells, get_or-by_cells, sort_by-is}
 use Rattle.arrays.proofs.Passages.{oa-sort_by}
 use Rattle.arrays.proofs.Squares.{mols-squares_of_rows}

@@ -3,7 +3,7 @@ use Rattle.std.proofs.Common.{List, ap, arith, length, refl, suc, sym, true, zer
 use Rattle.std.proofs.lemmas.Bool.{eq-eqb, eqb-true}
 use Rattle.std.specs.List.{sum_by}
 use Rattle.counting.proofs.ButOne.{sum_below-but_const}
-use Rattle.counting.proofs.Counts.{bool_same, count_one, one-true, sum_below-same}
+use Rattle.counting.proofs.Counts.{eqb-turn, count_one, one-true, sum_below-same}
 use Rattle.counting.proofs.Lists.{each_all, sum_by-agree, sum_by-mul-one, sum_by-same, sum_by-sum_below}
 use Rattle.counting.specs.Sums.{one, sum_below}
 use Rattle.design_base.proofs.Points.{one-holds}
@@ -18,9 +18,6 @@ pairs add b d = sum_by (λ x. sum_by (λ y. one (add x d == y)) b) b
 differences-is : (add : ℕ → ℕ → ℕ) (B : List (List ℕ)) (d : ℕ) → differences add B d ≡ sum_by (λ b. pairs add b d) B
 unfolding differences one
 differences-is add B d = refl
-
-turned : (x y : ℕ) → (x == y) ≡ (y == x)
-turned x y = bool_same _ _ (λ e. eq-eqb y x (sym (eqb-true x y e))) (λ e. eq-eqb x y (sym (eqb-true y x e)))
 
 module _ (v : ℕ) (add : ℕ → ℕ → ℕ) (group : IsGroupSum v add) where
   -- two elements have one difference
@@ -45,7 +42,7 @@ module _ (v : ℕ) (add : ℕ → ℕ → ℕ) (group : IsGroupSum v add) where
     equal_pairs : pairs add b 0 ≡ k
     equal_pairs =
         sum_by-agree (λ x. (x < v) × (holds x b ≡ true)) _ (λ x. 1) b (block_points v (λ size. size ≡ k) b block) (λ x p.
-        sum_by-same _ (λ y. one (y == x)) b (each_all _ (λ y. ap (λ t. one (t == y)) (group.zero_neutral x p.0) ∙ ap one (turned x y)) b)
+        sum_by-same _ (λ y. one (y == x)) b (each_all _ (λ y. ap (λ t. one (t == y)) (group.zero_neutral x p.0) ∙ ap one (eqb-turn x y)) b)
         ∙ sym (one-holds x b (block_differs v (λ size. size ≡ k) b block)) ∙ one-true (holds x b) p.1)
         ∙ sum_by-mul-one 1 b ∙ omega (arith, block.size)
 

@@ -139,3 +139,6 @@ pub bool_same : (p q : Bool) → (p ≡ true → q ≡ true) → (q ≡ true →
 bool_same true q f g = sym (f refl)
 bool_same false true f g = g refl
 bool_same false false f g = refl
+
+pub eqb-turn : (x y : ℕ) → (x == y) ≡ (y == x)
+eqb-turn x y = bool_same _ _ (λ e. eq-eqb y x (sym (eqb-true x y e))) (λ e. eq-eqb x y (sym (eqb-true y x e)))

@@ -7,3 +7,5 @@ pub mod OnePlace
 pub mod Grids
 pub mod ButOne
 pub mod Squares
+pub mod Totals
+pub mod Upward

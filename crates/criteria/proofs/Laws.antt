@@ -75,7 +75,7 @@ gdd_fails k g u B two some more design = (
 )
 
 -- the groups of the questions
-group_sum : (group : Group) (v : ℕ) → 1 ≤ v → GroupAt group v → IsGroupSum v (group_add group v)
+pub group_sum : (group : Group) (v : ℕ) → 1 ≤ v → GroupAt group v → IsGroupSum v (group_add group v)
 group_sum group v some at =
     let sums = group_sums group v some at in
     record {

@@ -29,9 +29,9 @@ use Rattle.spaces.proofs.OwnForm.{own_affine, own_projective}
 use Rattle.gdd_pbd.specs.Basic.{omit_blocks, pair_blocks, whole_blocks}
 use Rattle.gdd_pbd.proofs.BasicDesigns.{pairs_is_bibd, sum_is_bibd, whole_is_bibd}
 use Rattle.gdd_pbd.proofs.Complements.{complement_of, omit_is_bibd}
-use Rattle.rule_table.specs.BibdTerms.{bibd_terms}
-use Rattle.rule_table.specs.Terms.{allows, premises_at}
-use Rattle.rule_table.proofs.Bounds.{bibd_bounds, both}
+use Rattle.rule_terms.specs.BibdTerms.{bibd_terms}
+use Rattle.rule_terms.specs.Terms.{allows, premises_at}
+use Rattle.rule_terms.proofs.Bounds.{bibd_bounds, both}
 use Rattle.derivations.specs.AllMeet.{AllMeet}
 use Rattle.derivations.specs.BibdBlocks.{AreLines, AreTriples, bibd_blocks, CanBuildBibd}
 use Rattle.derivations.proofs.Taken.{taken}

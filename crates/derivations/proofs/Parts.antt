@@ -9,7 +9,7 @@ use Rattle.design_base.specs.declared.verdict.Verdict.TheVariants.{Yes, No, Unkn
 use Rattle.design_base.specs.Limits.{in_bounds}
 use Rattle.design_base.specs.Steps.{Step}
 use Rattle.rule_table.specs.Candidates.{is_candidate, premises}
-use Rattle.rule_table.specs.Rank.{rank}
+use Rattle.rule_terms.specs.Rank.{rank}
 use Rattle.rule_table.specs.Verdicts.{verdict}
 use Rattle.rule_table.proofs.Each.{each-weaker}
 use Rattle.rule_table.proofs.Chosen.{IsProved, chosen_of}

@@ -8,7 +8,7 @@ use Rattle.design_base.specs.Limits.{in_bounds}
 use Rattle.design_base.specs.Meets.{Meets}
 use Rattle.derivations.specs.Same.{same_query}
 use Rattle.rule_table.specs.Candidates.{premises}
-use Rattle.rule_table.proofs.Bounds.{both}
+use Rattle.rule_terms.proofs.Bounds.{both}
 use Rattle.derivations.specs.Blocks.{blocks}
 use Rattle.derivations.specs.AllMeet.{AllMeet}
 use Rattle.derivations.specs.declared.line.Line.{Line}

@@ -9,7 +9,7 @@ use Rattle.counting.specs.Search.{is_among}
 use Rattle.design_base.specs.declared.query.Query.{Query}
 use Rattle.design_base.specs.Meets.{Meets}
 use Rattle.rule_table.specs.Candidates.{premises}
-use Rattle.rule_table.proofs.Bounds.{both}
+use Rattle.rule_terms.proofs.Bounds.{both}
 use Rattle.derivations.specs.declared.line.Line.{Line}
 use Rattle.derivations.specs.Blocks.{blocks}
 use Rattle.derivations.specs.AllMeet.{AllMeet}

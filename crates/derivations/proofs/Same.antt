@@ -6,7 +6,7 @@ use Rattle.design_base.specs.declared.query.Group.TheVariants.{Cyclic, Field}
 use Rattle.design_base.specs.declared.query.Query.{Query}
 use Rattle.design_base.specs.declared.query.Query.TheVariants.{Td, Df, Bibd, Gdd, Pbd}
 use Rattle.derivations.specs.Same.{same_query, same_group}
-use Rattle.rule_table.proofs.Bounds.{both}
+use Rattle.rule_terms.proofs.Bounds.{both}
 use Rattle.std.proofs.lemmas.Bool.{eqb-true, eq-eqb}
 
 pub group_same : (g h : Group) → same_group g h ≡ true → g ≡ h

@@ -13,10 +13,10 @@ use Rattle.design_base.specs.Steps.{step}
 use Rattle.design_base.specs.declared.query.Query.TheVariants.{Td}
 use Rattle.design_base.specs.declared.rule.Rule.TheVariants.{Cyclic, Field, Product, Parker}
 use Rattle.rule_table.specs.Candidates.{candidates, is_candidate, premises}
-use Rattle.rule_table.specs.Rank.{rank}
-use Rattle.rule_table.specs.Table.{terms}
-use Rattle.rule_table.specs.TdTerms.{td_terms}
-use Rattle.rule_table.specs.Terms.{choices, allows, premises_at}
+use Rattle.rule_terms.specs.Rank.{rank}
+use Rattle.rule_terms.specs.Table.{terms}
+use Rattle.rule_terms.specs.TdTerms.{td_terms}
+use Rattle.rule_terms.specs.Terms.{choices, allows, premises_at}
 use Rattle.rule_table.specs.Verdicts.{judged, verdict, verdict_below}
 use Rattle.transversal.specs.Constructions.{cyclic_row, cyclic_rows, rows_below}
 use Rattle.derivations.specs.Blocks.{blocks, built}

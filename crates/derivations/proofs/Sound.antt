@@ -12,7 +12,7 @@ use Rattle.design_base.specs.Limits.{in_bounds}
 use Rattle.design_base.specs.Steps.{Step}
 use Rattle.derivations.specs.Same.{same_query}
 use Rattle.rule_table.specs.Candidates.{is_candidate, premises}
-use Rattle.rule_table.specs.Rank.{rank}
+use Rattle.rule_terms.specs.Rank.{rank}
 use Rattle.rule_table.specs.Verdicts.{verdict, is_yes}
 use Rattle.rule_table.proofs.Chosen.{IsProved, IsChosen, chosen_of}
 use Rattle.derivations.specs.declared.line.Line.{Line}

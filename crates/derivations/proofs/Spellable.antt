@@ -6,7 +6,7 @@ use Rattle.std.proofs.lemmas.Bool.Decides.{nat_tests}
 use Rattle.design_base.specs.Limits.{HasFewDigits}
 use Rattle.design_base.specs.declared.limits.TheConstants.{DIGITS_MAX, PREMISES_MAX}
 use Rattle.design_base.specs.declared.query.Query.{Query}
-use Rattle.rule_table.proofs.Bounds.{both}
+use Rattle.rule_terms.proofs.Bounds.{both}
 use Rattle.rule_table.proofs.Passing.{premises_few}
 use Rattle.rule_table.proofs.Spelled.{candidate_kind}
 use Rattle.rule_table.specs.Candidates.{premises}

@@ -14,9 +14,9 @@ use Rattle.transversal.specs.Constructions.{one_blocks, product_blocks, parker_b
 use Rattle.transversal.proofs.Designs.{one_design, cyclic_design, field_design, product_design, parker_design}
 use Rattle.wilson.specs.Truncations.{wilson_one_blocks, wilson_two_blocks}
 use Rattle.wilson.proofs.Designs.{wilson_one_design, wilson_two_design}
-use Rattle.rule_table.specs.TdTerms.{td_terms}
-use Rattle.rule_table.specs.Terms.{allows, premises_at}
-use Rattle.rule_table.proofs.Bounds.{td_bounds, both}
+use Rattle.rule_terms.specs.TdTerms.{td_terms}
+use Rattle.rule_terms.specs.Terms.{allows, premises_at}
+use Rattle.rule_terms.proofs.Bounds.{td_bounds, both}
 use Rattle.derivations.specs.AllMeet.{AllMeet}
 use Rattle.derivations.specs.TdBlocks.{td_blocks, CanBuildTd}
 use Rattle.derivations.proofs.Taken.{taken}

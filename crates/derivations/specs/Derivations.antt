@@ -10,7 +10,7 @@ use Rattle.design_base.specs.Limits.{in_bounds}
 use Rattle.derivations.specs.Same.{same_query}
 use Rattle.design_base.specs.Steps.{Step}
 use Rattle.rule_table.specs.Candidates.{is_candidate, premises}
-use Rattle.rule_table.specs.Rank.{rank}
+use Rattle.rule_terms.specs.Rank.{rank}
 use Rattle.rule_table.specs.Verdicts.{verdict}
 use Rattle.derivations.specs.Blocks.{blocks}
 use Rattle.derivations.specs.declared.line.Fault.{Fault}

@@ -5,7 +5,7 @@ use Rattle.std.proofs.lemmas.List.Elements.{All-weaker, recursion_from_All}
 use Rattle.std.proofs.lemmas.List.Sums.{sum_by-cons, sum_by-le}
 use Rattle.std.specs.List.{AllByRecursion, count_by, sum_by}
 use Rattle.std.specs.Prelude.{All}
-use Rattle.counting.proofs.Counts.{bool_same, one-false, one-true, sum_below-at, sum_below-same}
+use Rattle.counting.proofs.Counts.{eqb-turn, one-false, one-true, sum_below-at, sum_below-same}
 use Rattle.counting.proofs.Lists.{each-weaker, each_all, one-and, sum_by-agree, sum_by-mul, sum_by-same, sum_by-sum_below}
 use Rattle.counting.specs.Sums.{one, sum_below}
 use Rattle.design_base.proofs.Canonical.{Rises, differs_from_rises, rises_from_increasing}
@@ -40,13 +40,10 @@ sum_points v f row r below =
     ∙ sum_below-same v (λ x. sum_by (λ z. f x * one (z == x)) row) (λ x. f x * one (holds x row))
     (λ x l. sum_by-mul (f x) (λ z. one (z == x)) row ∙ ap (λ n. f x * n) (sym (one-holds x row (differs_from_rises row r))))
 
-turned : (x y : ℕ) → (x == y) ≡ (y == x)
-turned x y = bool_same _ _ (λ e. eq-eqb y x (sym (eqb-true x y e))) (λ e. eq-eqb x y (sym (eqb-true y x e)))
-
 -- y stands once or not at all in a row
 times_held : (y : ℕ) (row : List ℕ) → Rises row → count_by (λ z. y == z) row ≡ one (holds y row)
 unfolding one
-times_held y row r = sum_by-same (λ z. cond (y == z) 1 0) (λ z. cond (z == y) 1 0) row (each_all _ (λ z. ap (λ t. cond t 1 0) (turned y z)) row) ∙ sym (one-holds y row (differs_from_rises row r))
+times_held y row r = sum_by-same (λ z. cond (y == z) 1 0) (λ z. cond (z == y) 1 0) row (each_all _ (λ z. ap (λ t. cond t 1 0) (eqb-turn y z)) row) ∙ sym (one-holds y row (differs_from_rises row r))
 
 module _ (v : ℕ) (add : ℕ → ℕ → ℕ) (d : ℕ) where
   row_differences : (row : List ℕ) → IsRowOf v row → sum_by (λ x. count_by (λ y. add x d == y) row) row ≡ sum_below v (λ x. one (holds x row && holds (add x d) row))

@@ -1,9 +1,10 @@
 -- A finding is Valid exactly where the block list meets the question.
-use Rattle.std.proofs.Common.{Bool, List, arith, false, refl, sym, true, ℕ, ◌&&◌, ◌*◌, ◌+◌, ◌<◌, ◌∙◌, ◌≡◌, ◌≤◌, ◌⊎◌}
+use Rattle.std.proofs.Common.{Bool, List, ap, arith, false, refl, sym, true, ℕ, ◌&&◌, ◌*◌, ◌+◌, ◌<◌, ◌∙◌, ◌≡◌, ◌≤◌, ◌⊎◌}
 use Rattle.std.proofs.lemmas.Bool.{and_parts, leb-true}
 use Rattle.std.specs.Bool.{Decides}
 use Rattle.std.specs.Prelude.{nat_le, ◌↔◌}
 use Rattle.design_base.specs.Blocks.{IsBibd, IsGdd, IsPbd, IsTd, across}
+use Rattle.design_base.specs.Canonical.{canonical}
 use Rattle.design_base.specs.Fields.{FieldAt, has_field}
 use Rattle.design_base.specs.Limits.{in_bounds, is_listed, within}
 use Rattle.design_base.specs.Meets.{GroupAt, Meets, group_add}
@@ -14,9 +15,9 @@ use Rattle.design_base.specs.declared.query.Query.{Query}
 use Rattle.design_base.specs.declared.query.Query.TheVariants.{Bibd, Df, Gdd, Pbd, Td}
 use Rattle.field_tables.proofs.Listed.{FieldAt-listed, listed-FieldAt}
 use Rattle.design_checks.proofs.Valid.{design_is_valid, exactly, family_is_valid, or_one_more, valid_is_design, valid_is_family}
-use Rattle.design_checks.specs.Findings.{family_finding, finding}
+use Rattle.design_checks.specs.Findings.{family_finding, finding, is_valid, passes_check}
 use Rattle.design_checks.specs.declared.finding.Finding.{Finding}
-use Rattle.design_checks.specs.declared.finding.Finding.TheVariants.{BadPair, Valid}
+use Rattle.design_checks.specs.declared.finding.Finding.TheVariants.{BadBlock, BadPair, Valid}
 
 pub bibd_valid : (B : List (List ℕ)) (v k l : ℕ) → (finding (Bibd v k l) B ≡ Valid) ↔ IsBibd B v k l
 unfolding finding
@@ -68,6 +69,18 @@ found_meets q B found e = ((λ f. valid_meets listed q B (sym e ∙ f)), (λ h. 
   where
     listed : (q : ℕ) → Decides (has_field q) (FieldAt q)
     listed q = (FieldAt-listed q, listed-FieldAt q)
+
+pub valid_from : (f : Finding) → is_valid f ≡ true → f ≡ Valid
+valid_from Valid e = refl
+valid_from (BadBlock i) e = cc
+valid_from (BadPair x y c) e = cc
+
+-- a block list passes its check exactly where it meets the question
+pub passes_meets : (q : Query) (B : List (List ℕ)) → (passes_check q B ≡ true) ↔ Meets q (canonical B)
+passes_meets q B = (
+  (λ e. (found_meets q (canonical B) _ refl).0 (valid_from _ e)),
+  (λ h. ap is_valid ((found_meets q (canonical B) _ refl).1 h)),
+)
 
 -- a group that is asked for in bounds
 pub record IsGroup (group : Group) (v : ℕ) : Type 0 where

@@ -4,6 +4,7 @@ use Rattle.std.specs.List.{list_all}
 use Rattle.counting.specs.Search.{first_in}
 use Rattle.counting.specs.Sums.{join_below, list_below}
 use Rattle.design_base.specs.Blocks.{cover, across, differences}
+use Rattle.design_base.specs.Canonical.{canonical}
 use Rattle.design_base.specs.Limits.{is_listed, within}
 use Rattle.design_base.specs.Meets.{group_add}
 use Rattle.design_base.specs.declared.query.Query.{Query}
@@ -56,3 +57,13 @@ finding (Df group v k l) B =
 finding (Bibd v k l) B = design_finding B v k k (λ x y. l)
 finding (Gdd k g u) B = design_finding B (g * u) k k (across g)
 finding (Pbd v s) B = design_finding B v s (s + 1) (λ x y. 1)
+
+-- nothing is found
+abbrev pub is_valid : Finding → Bool
+is_valid Valid = true
+is_valid (BadBlock i) = false
+is_valid (BadPair x y c) = false
+
+-- the block list, put in canonical form, meets the question: a test of it finds nothing
+abbrev pub passes_check : Query → List (List ℕ) → Bool
+passes_check q B = is_valid (finding q (canonical B))

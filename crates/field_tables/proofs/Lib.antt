@@ -11,6 +11,7 @@ pub mod Steps
 pub mod Rules
 pub mod Values
 pub mod Fill
-pub mod Upward
 pub mod Marks
 pub mod GroupSums
+pub mod GeneratorPowers
+pub mod Generators

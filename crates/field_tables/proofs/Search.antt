@@ -1,8 +1,9 @@
 -- What the search words of `counting` say of the elements of a list.
-use Rattle.std.proofs.Common.{◌≡◌, ◌≢◌, ℕ, Bool, true, false, List, [], ◌∷◌, Some, refl, ap, sym, ◌∙◌, ◌<◌, ◌+◌, suc, arith, length, drop, drop-cons, get_or}
-use Rattle.std.specs.Prelude.{◌==◌}
-use Rattle.std.proofs.lemmas.Bool.{eq-eqb, ne_eqb, eqb-true}
-use Rattle.counting.specs.Search.{first_in, each_passes}
+use Rattle.std.proofs.Common.{◌≡◌, ◌≢◌, ℕ, Bool, true, false, List, [], ◌∷◌, ◌++◌, Some, refl, ap, subst, sym, ◌∙◌, ◌<◌, ◌+◌, suc, zero, arith, inl, inr, length, drop, drop-cons, get_or}
+use Rattle.std.specs.Prelude.{nat_eq, ◌==◌}
+use Rattle.std.proofs.lemmas.Bool.{cases_eq, eq-eqb, ne_eqb, eqb-true}
+use Rattle.counting.specs.Search.{first_in, each_passes, is_among}
+use Rattle.counting.specs.Sums.{join_below, list_below}
 use Rattle.design_base.specs.Fields.{order}
 use Rattle.field_tables.specs.declared.polynomial.Polynomial.{Polynomial}
 use Rattle.field_tables.specs.Tables.{found_in, modulus_in}
@@ -36,6 +37,42 @@ each_first test x xs h = by (test x) refl h
     by : (b : Bool) → test x ≡ b → elim b [ true ↦ each_passes test xs | false ↦ false ] ≡ true → (test x ≡ true) × (each_passes test xs ≡ true)
     by true e h = (e, h)
     by false e h = cc
+
+-- the elements of two lists
+each_append : {X : Type 0} (test : X → Bool) (xs ys : List X) → each_passes test (xs ++ ys) ≡ true → (each_passes test xs ≡ true) × (each_passes test ys ≡ true)
+unfolding each_passes
+each_append test [] ys e = (refl, e)
+each_append test (x ∷ xs) ys e =
+    let h = each_first test x (xs ++ ys) e in
+    let t = each_append test xs ys h.1 in
+    (ap (λ b. elim b [ true ↦ each_passes test xs | false ↦ false ]) h.0 ∙ t.0, t.1)
+
+-- the element at a place
+pub passes_at : {X : Type 0} (test : X → Bool) (xs : List X) → each_passes test xs ≡ true → (i : ℕ) (d : X) → i < length xs → test (get_or xs i d) ≡ true
+passes_at test [] e i d l = absurd (omega arith)
+passes_at test (x ∷ xs) e zero d l = (each_first test x xs e).0
+passes_at test (x ∷ xs) e (suc i) d l = passes_at test xs (each_first test x xs e).1 i d (omega arith)
+
+-- those of a list f 0, f 1, ..
+pub passes_below : {X : Type 0} (test : X → Bool) (n : ℕ) (f : ℕ → X) → each_passes test (list_below n f) ≡ true → (i : ℕ) → i < n → test (f i) ≡ true
+unfolding join_below
+passes_below test zero f e i l = absurd (omega arith)
+passes_below test (suc n) f e i l =
+    let h = each_append test (list_below n f) (f n ∷ []) e in
+    elim (cases_eq i n) [
+      | inl s ↦ subst (λ k. test (f k) ≡ true) (sym s) (each_first test (f n) [] h.1).0
+      | inr d ↦ passes_below test n f h.0 i (omega arith)
+    ]
+
+-- a number that is among those of a list
+pub passes_among : (test : ℕ → Bool) (x : ℕ) (xs : List ℕ) → each_passes test xs ≡ true → is_among x xs ≡ true → test x ≡ true
+unfolding is_among
+passes_among test x [] e h = absurd (let f : false ≡ true = h in cc)
+passes_among test x (y ∷ ys) e h = by (nat_eq x y) refl (passes_among test x ys (each_first test y ys e).1) h
+  where
+    by : (b : Bool) → nat_eq x y ≡ b → (is_among x ys ≡ true → test x ≡ true) → elim b [ true ↦ true | false ↦ is_among x ys ] ≡ true → test x ≡ true
+    by true f rest h = subst (λ z. test z ≡ true) (sym (eqb-true x y f)) (each_first test y ys e).0
+    by false f rest h = rest h
 
 -- a step of the search: the polynomials from place k on
 module _ (q k : ℕ) (fs : List Polynomial) (d : Polynomial) (inside : k < length fs)

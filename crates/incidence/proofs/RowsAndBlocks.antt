@@ -113,10 +113,6 @@ row_room_next n now all block rest is = omega (
   size_of_rows_of_blocks n all,
 )
 
--- ---- what is left after a row
-pub left_after : (P : List ℕ → Type 0) (all : List (List ℕ)) (row : List ℕ) (rest : List (List ℕ)) → all ≡ row ∷ rest → All P all → All P rest
-left_after P all row rest is each = let now : All P (row ∷ rest) = subst (All P) is each in All-tail P row rest now
-
 -- ---- the blocks of a transversal design
 module _ (k n : ℕ) (B : List (List ℕ)) (td : IsTd B k n) where
   pub sizes_of_td : All (λ block. length block ≡ k) B

@@ -11,15 +11,15 @@ use Rattle.design_base.specs.declared.rule.Rule.{Rule}
 use Rattle.design_base.specs.Rules.{rules, number_of_rule, serves, kind_of}
 use Rattle.design_base.specs.Limits.{in_bounds}
 use Rattle.design_base.specs.Steps.{Step, step, step_with}
-use Rattle.field_tables.proofs.Upward.{upward-cons, upward-none}
+use Rattle.counting.proofs.Upward.{upward-cons, upward-none}
 use Rattle.smallvec.specs.SmallVec.{SmallVec}
-use Rattle.rule_table.specs.declared.next.Next.{Next}
-use Rattle.rule_table.specs.declared.next.Next.TheVariants.{Parameter, Premises, Nothing}
-use Rattle.rule_table.specs.Terms.{Terms, when◌asks◌, from◌to◌take◌, choices}
-use Rattle.rule_table.specs.Table.{terms}
-use Rattle.rule_table.specs.Nexts.{IsNext}
+use Rattle.rule_terms.specs.declared.next.Next.{Next}
+use Rattle.rule_terms.specs.declared.next.Next.TheVariants.{Parameter, Premises, Nothing}
+use Rattle.rule_terms.specs.Terms.{Terms, when◌asks◌, from◌to◌take◌, choices, terms_at}
+use Rattle.rule_terms.specs.Table.{terms}
+use Rattle.rule_terms.specs.Nexts.{IsNext}
 use Rattle.rule_table.specs.Candidates.{serving}
-use Rattle.rule_table.specs.Walks.{head, terms_at, choices_after, steps_under, steps_between, steps_behind, steps_by, steps_of, steps_after, rules_after}
+use Rattle.rule_table.specs.Walks.{head, choices_after, steps_under, steps_between, steps_behind, steps_by, steps_of, steps_after, rules_after}
 
 -- what the terms are, by what they say first
 

@@ -12,16 +12,16 @@ use Rattle.design_base.specs.declared.rule.Rule.TheVariants.{TdOne}
 use Rattle.design_base.specs.Rules.{rules, number_of_rule, serves, kind_of, title}
 use Rattle.design_base.specs.Limits.{in_bounds}
 use Rattle.design_base.specs.Steps.{Step, step_with}
-use Rattle.field_tables.proofs.Upward.{upward-cons, upward-none}
-use Rattle.rule_table.specs.Terms.{Terms, when◌asks◌, from◌to◌take◌, choices}
-use Rattle.rule_table.specs.Table.{terms}
+use Rattle.counting.proofs.Upward.{upward-cons, upward-none}
+use Rattle.rule_terms.specs.Terms.{Terms, when◌asks◌, from◌to◌take◌, choices}
+use Rattle.rule_terms.specs.Table.{terms}
 use Rattle.rule_table.specs.Candidates.{candidates, four}
-use Rattle.rule_table.specs.Rank.{rank}
+use Rattle.rule_terms.specs.Rank.{rank}
 use Rattle.rule_table.specs.Walks.{head, choices_after, steps_behind, steps_by, steps_of, steps_after, steps_from, rules_after}
 use Rattle.rule_table.proofs.Each.{each-passing}
-use Rattle.rule_table.proofs.Grounded.{IsGrounded, few_parameters}
+use Rattle.rule_terms.proofs.Grounded.{IsGrounded, few_parameters}
 use Rattle.rule_table.proofs.Passing.{four_of}
-use Rattle.rule_table.proofs.Rules.{grounded}
+use Rattle.rule_terms.proofs.Rules.{grounded}
 use Rattle.rule_table.proofs.Firsts.{rules-cons, terms_at-none}
 
 -- each has n parameters, and those after it are the choices behind it

@@ -5,7 +5,7 @@ use Rattle.std.specs.List.{list_all, AllByRecursion, Contains}
 use Rattle.std.proofs.lemmas.Bool.{leb-true}
 use Rattle.std.proofs.lemmas.List.Elements.{Contains-append_left, Contains-append_right}
 use Rattle.counting.specs.Search.{upward}
-use Rattle.counting.proofs.Ranges.{length-list_below, get_or-list_below}
+use Rattle.counting.proofs.Upward.{Contains-upward}
 use Rattle.design_base.specs.declared.query.Query.{Query}
 use Rattle.design_base.specs.declared.rule.Kind.{Kind}
 use Rattle.design_base.specs.declared.rule.Rule.{Rule}
@@ -14,18 +14,17 @@ use Rattle.design_base.specs.Rules.{rules, number_of_rule, serves, kind_of, titl
 use Rattle.design_base.specs.Limits.{in_bounds, within}
 use Rattle.design_base.specs.Steps.{Step, IsStep, step, step_with}
 use Rattle.smallvec.specs.SmallVec.{SmallVec}
-use Rattle.rule_table.specs.declared.next.Next.TheVariants.{Parameter, Premises, Nothing}
-use Rattle.rule_table.specs.Terms.{Terms, when◌asks◌, from◌to◌take◌, choices, allows, premises_at}
-use Rattle.rule_table.specs.Table.{terms}
+use Rattle.rule_terms.specs.declared.next.Next.TheVariants.{Parameter, Premises, Nothing}
+use Rattle.rule_terms.specs.Terms.{Terms, when◌asks◌, from◌to◌take◌, choices, allows, premises_at, terms_at}
+use Rattle.rule_terms.specs.Table.{terms}
 use Rattle.rule_table.specs.Candidates.{candidates, serving, is_candidate, premises, four}
-use Rattle.rule_table.specs.Rank.{rank}
-use Rattle.rule_table.specs.Nexts.{IsNext}
-use Rattle.rule_table.specs.Walks.{terms_at}
-use Rattle.rule_table.proofs.Bounds.{both}
+use Rattle.rule_terms.specs.Rank.{rank}
+use Rattle.rule_terms.specs.Nexts.{IsNext}
+use Rattle.rule_terms.proofs.Bounds.{both}
 use Rattle.rule_table.proofs.Each.{each-passing}
-use Rattle.rule_table.proofs.Grounded.{IsGrounded}
+use Rattle.rule_terms.proofs.Grounded.{IsGrounded}
 use Rattle.rule_table.proofs.Passing.{candidates_are}
-use Rattle.rule_table.proofs.Rules.{grounded}
+use Rattle.rule_terms.proofs.Rules.{grounded}
 use Rattle.rule_table.proofs.Firsts.{terms_at-none, next-parameter, next-premises, next-nothing}
 
 -- what is allowed, and the premises, by what the terms say first
@@ -111,13 +110,6 @@ Contains-filter {X = X} test (y ∷ xs) x t (suc k, l, e) = later (test y) (Cont
     later : (b : Bool) → Contains (filter test xs) x → Contains (if b then y ∷ filter test xs else filter test xs) x
     later true c = (suc c.0, omega (arith, c.1), c.2)
     later false c = c
-
-Contains-upward : (low high x : ℕ) → low ≤ x → x ≤ high → Contains (upward low high) x
-Contains-upward low high x l h = (
-  x - low,
-  omega (arith, length-list_below (high + 1 - low) (λ i. low + i)),
-  get_or-list_below (high + 1 - low) (λ i. low + i) (x - low) x (omega arith) ∙ (let e : low + (x - low) ≡ x = omega arith in e),
-)
 
 Contains-rules : (r : Rule) → Contains rules r
 Contains-rules TdOne = (0, omega arith, refl)

@@ -9,14 +9,15 @@ use Rattle.design_base.specs.declared.rule.Rule.{Rule}
 use Rattle.design_base.specs.Limits.{in_bounds, within}
 use Rattle.design_base.specs.Rules.{rules, serves, kind_of, title}
 use Rattle.design_base.specs.Steps.{Step, step_with}
-use Rattle.rule_table.specs.Terms.{Terms, when◌asks◌, from◌to◌take◌, choices, allows, premises_at}
-use Rattle.rule_table.specs.Table.{terms}
+use Rattle.rule_terms.specs.Terms.{Terms, when◌asks◌, from◌to◌take◌, choices, allows, premises_at}
+use Rattle.rule_terms.specs.Table.{terms}
 use Rattle.rule_table.specs.Candidates.{candidates, serving, premises, four, is_candidate}
-use Rattle.rule_table.specs.Rank.{rank}
-use Rattle.rule_table.proofs.Bounds.{both}
-use Rattle.rule_table.proofs.Grounded.{IsGrounded, few_parameters}
-use Rattle.rule_table.proofs.Rules.{grounded}
-use Rattle.rule_table.proofs.Each.{each-both, each-weaker, each-passing, each-map, each-flat_map, each-filtered, each-upward, guarded}
+use Rattle.rule_terms.specs.Rank.{rank}
+use Rattle.rule_terms.proofs.Bounds.{both}
+use Rattle.rule_terms.proofs.Grounded.{IsGrounded, few_parameters}
+use Rattle.rule_terms.proofs.Rules.{grounded}
+use Rattle.counting.proofs.Upward.{each-upward}
+use Rattle.rule_table.proofs.Each.{each-both, each-weaker, each-passing, each-map, each-flat_map, each-filtered, guarded}
 
 -- whatever stands behind the parameters, they are allowed; there are at most n
 abbrev IsAllowed : ℕ → Terms → List ℕ → Type 0

@@ -12,10 +12,10 @@ use Rattle.design_base.specs.declared.verdict.Verdict.TheVariants.{Yes, No, Unkn
 use Rattle.design_base.specs.Steps.{step}
 use Rattle.rule_table.specs.Asked.{asked, asked_by, asked_through}
 use Rattle.rule_table.specs.Candidates.{candidates, premises}
-use Rattle.rule_table.specs.Rank.{rank}
-use Rattle.rule_table.specs.Table.{terms}
-use Rattle.rule_table.specs.TdTerms.{td_terms}
-use Rattle.rule_table.specs.Terms.{choices, premises_at}
+use Rattle.rule_terms.specs.Rank.{rank}
+use Rattle.rule_terms.specs.Table.{terms}
+use Rattle.rule_terms.specs.TdTerms.{td_terms}
+use Rattle.rule_terms.specs.Terms.{choices, premises_at}
 use Rattle.rule_table.specs.Verdicts.{judged, verdict, verdict_below}
 use Rattle.rule_table.specs.Work.{work, work_below}
 

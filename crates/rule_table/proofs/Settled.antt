@@ -17,13 +17,13 @@ use Rattle.design_base.specs.Steps.{step}
 use Rattle.block_counts.specs.Counts.{replication_number}
 use Rattle.criteria.specs.Criteria.{reasons, reason_of, criterion_of}
 use Rattle.criteria.specs.declared.table.Comparison.{Comparison}
-use Rattle.rule_table.specs.BibdTerms.{bibd_terms}
+use Rattle.rule_terms.specs.BibdTerms.{bibd_terms}
 use Rattle.rule_table.specs.Candidates.{is_candidate, premises}
 use Rattle.rule_table.specs.Decided.{HasSettledSize, SettledLaw}
-use Rattle.rule_table.specs.Table.{terms}
-use Rattle.rule_table.specs.Terms.{allows, premises_at}
+use Rattle.rule_terms.specs.Table.{terms}
+use Rattle.rule_terms.specs.Terms.{allows, premises_at}
 use Rattle.rule_table.specs.Verdicts.{judged, verdict, first_step, is_yes, yes_or_unknown}
-use Rattle.rule_table.proofs.Bounds.{bibd_bounds}
+use Rattle.rule_terms.proofs.Bounds.{bibd_bounds}
 use Rattle.rule_table.proofs.Proved.{IsYes, proved_by, proved_alone}
 use Rattle.rule_table.proofs.Unfolds.{verdict_unfolds}
 

@@ -4,7 +4,7 @@ use Rattle.std.specs.Prelude.{Option, Some, None}
 use Rattle.design_base.specs.declared.query.Query.{Query}
 use Rattle.design_base.specs.Cells.{cell_of}
 use Rattle.design_base.specs.Limits.{in_bounds}
-use Rattle.rule_table.specs.Rank.{rank}
+use Rattle.rule_terms.specs.Rank.{rank}
 use Rattle.rule_table.specs.Told.{Cells, Has, Grows, Learns, IsCellBelow, ToldAfter, KeptAfter}
 
 lower : (p q : Query) (i : ℕ) → rank p ≤ rank q → IsCellBelow p i → IsCellBelow q i

@@ -18,7 +18,7 @@ use Rattle.criteria.proofs.Laws.{criterion_law}
 use Rattle.rule_table.specs.Asked.{asked, asked_by, asked_through}
 use Rattle.rule_table.specs.Candidates.{candidates, premises, is_candidate}
 use Rattle.rule_table.specs.Progress.{Progress, AsksNext, IsPlace, IsSound, TellsNext, answered_next, are_yes, asked_from, asked_still, first_proved, found_from, progress}
-use Rattle.rule_table.specs.Rank.{rank}
+use Rattle.rule_terms.specs.Rank.{rank}
 use Rattle.rule_table.specs.Verdicts.{first_step, is_yes, judged, verdict, yes_or_unknown}
 use Rattle.rule_table.specs.Walks.{head, steps_after, steps_from, steps_of}
 use Rattle.rule_table.proofs.Followed.{from_first, from_next}

@@ -11,7 +11,7 @@ use Rattle.design_base.specs.Limits.{in_bounds}
 use Rattle.design_base.specs.Steps.{Step}
 use Rattle.criteria.specs.Criteria.{criterion_of}
 use Rattle.rule_table.specs.Candidates.{candidates, premises}
-use Rattle.rule_table.specs.Rank.{rank}
+use Rattle.rule_terms.specs.Rank.{rank}
 use Rattle.rule_table.specs.Verdicts.{judged, verdict, verdict_below, first_step, is_yes, yes_or_unknown}
 use Rattle.rule_table.proofs.Each.{each-weaker, first_in-same, each_passes-same}
 use Rattle.rule_table.proofs.Passing.{IsBelow, candidates_fall}

@@ -11,7 +11,7 @@ use Rattle.design_base.specs.Steps.{Step}
 use Rattle.criteria.specs.Criteria.{criterion_of}
 use Rattle.rule_table.specs.Asked.{asked, asked_by, asked_through}
 use Rattle.rule_table.specs.Candidates.{candidates, premises}
-use Rattle.rule_table.specs.Rank.{rank}
+use Rattle.rule_terms.specs.Rank.{rank}
 use Rattle.rule_table.specs.Verdicts.{verdict, is_yes}
 use Rattle.rule_table.specs.Work.{work, work_below}
 use Rattle.rule_table.proofs.Each.{each-weaker}

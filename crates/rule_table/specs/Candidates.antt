@@ -4,8 +4,8 @@ use Rattle.design_base.specs.declared.query.Query.{Query}
 use Rattle.design_base.specs.declared.rule.Rule.{Rule}
 use Rattle.design_base.specs.Rules.{rules, serves, kind_of}
 use Rattle.design_base.specs.Steps.{Step, step_with}
-use Rattle.rule_table.specs.Terms.{choices, allows, premises_at}
-use Rattle.rule_table.specs.Table.{terms}
+use Rattle.rule_terms.specs.Terms.{choices, allows, premises_at}
+use Rattle.rule_terms.specs.Table.{terms}
 
 -- the parameters of the step, those past the rule's own too
 abbrev pub four : Step → List ℕ

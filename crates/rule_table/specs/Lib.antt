@@ -1,15 +1,8 @@
-pub mod Terms
-pub mod TdTerms
-pub mod BibdTerms
-pub mod Table
 pub mod Candidates
-pub mod Rank
 pub mod Verdicts
 pub mod Decided
 pub mod Asked
 pub mod Work
 pub mod Walks
-pub mod Takens
-pub mod Nexts
 pub mod Progress
 pub mod Told

@@ -11,7 +11,7 @@ use Rattle.criteria.specs.Criteria.{criterion_of}
 use Rattle.rule_table.specs.declared.turn.Turn.{Turn}
 use Rattle.rule_table.specs.declared.turn.Turn.TheVariants.{Ask, Done}
 use Rattle.rule_table.specs.Candidates.{premises, is_candidate}
-use Rattle.rule_table.specs.Rank.{rank}
+use Rattle.rule_terms.specs.Rank.{rank}
 use Rattle.rule_table.specs.Verdicts.{verdict, is_yes, first_step}
 use Rattle.rule_table.specs.Asked.{asked, asked_by, asked_through}
 use Rattle.rule_table.specs.Walks.{steps_after, steps_from}

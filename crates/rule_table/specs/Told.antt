@@ -5,7 +5,7 @@ use Rattle.std.specs.FinSet as set
 use Rattle.design_base.specs.declared.query.Query.{Query}
 use Rattle.design_base.specs.Cells.{cell_of}
 use Rattle.design_base.specs.Limits.{in_bounds}
-use Rattle.rule_table.specs.Rank.{rank}
+use Rattle.rule_terms.specs.Rank.{rank}
 
 -- a set of cells
 abbrev pub Cells : Type 0

@@ -8,7 +8,7 @@ use Rattle.design_base.specs.declared.verdict.Verdict.TheVariants.{Yes, No, Unkn
 use Rattle.design_base.specs.Steps.{Step}
 use Rattle.criteria.specs.Criteria.{criterion_of}
 use Rattle.rule_table.specs.Candidates.{candidates, premises}
-use Rattle.rule_table.specs.Rank.{rank}
+use Rattle.rule_terms.specs.Rank.{rank}
 
 abbrev pub is_yes : Verdict → Bool
 is_yes (Yes s) = true

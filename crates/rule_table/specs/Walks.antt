@@ -5,20 +5,14 @@ use Rattle.design_base.specs.declared.query.Query.{Query}
 use Rattle.design_base.specs.declared.rule.Rule.{Rule}
 use Rattle.design_base.specs.Rules.{rules, number_of_rule, serves, kind_of}
 use Rattle.design_base.specs.Steps.{Step, step_with}
-use Rattle.rule_table.specs.Terms.{Terms, when◌asks◌, from◌to◌take◌, choices}
-use Rattle.rule_table.specs.Table.{terms}
+use Rattle.rule_terms.specs.Terms.{Terms, when◌asks◌, from◌to◌take◌, choices, terms_at}
+use Rattle.rule_terms.specs.Table.{terms}
 use Rattle.rule_table.specs.Candidates.{four, serving}
 
 -- the first element, where there is one
 abbrev pub head : {X : Type 0} → List X → Option X
 head [] = None
 head (x ∷ xs) = Some x
-
--- the terms behind some parameters; surplus ones are not looked at
-abbrev pub terms_at : Terms → List ℕ → Terms
-terms_at (when condition asks premises) xs = when condition asks premises
-terms_at (from low to high take f) [] = from low to high take f
-terms_at (from low to high take f) (x ∷ xs) = terms_at (f x) xs
 
 -- the choices behind these parameters, and none or any behind them
 unfoldable pub choices_after : Terms → List ℕ → List (List ℕ)

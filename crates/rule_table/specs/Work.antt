@@ -3,7 +3,7 @@ use Rattle.std.specs.Prelude.{ℕ, ◌+◌, sum_by}
 use Rattle.std.proofs.Common.{zero, suc}
 use Rattle.design_base.specs.declared.query.Query.{Query}
 use Rattle.rule_table.specs.Asked.{asked}
-use Rattle.rule_table.specs.Rank.{rank}
+use Rattle.rule_terms.specs.Rank.{rank}
 
 -- the work of a question whose rank is below n
 unfoldable pub work_below : ℕ → Query → ℕ

@@ -4,17 +4,13 @@ ghost use Rattle.design_base.specs.declared.limits.TheConstants.{PARAMETER_MAX, 
 ghost use Rattle.design_base.specs.Limits.{in_bounds};
 ghost use Rattle.design_base.specs.Rules.{title};
 ghost use Rattle.rule_table.specs.Candidates.{candidates, premises as premises_of, is_candidate as is_candidate_of};
-ghost use Rattle.rule_table.specs.Table.{terms};
-ghost use Rattle.rule_table.specs.Takens.{listed, IsSmall};
-ghost use Rattle.rule_table.specs.Terms.{allows, premises_at};
-ghost use Rattle.rule_table.specs.Walks.{terms_at};
+ghost use Rattle.rule_terms.specs.Table.{terms};
+ghost use Rattle.rule_terms.specs.Takens.{listed, IsSmall};
+ghost use Rattle.rule_terms.specs.Terms.{allows, premises_at, terms_at};
 
-use crate::next::Next;
-use crate::table::next_of;
-use crate::taken::Taken;
-use crate::tools::Tools;
 use crate::walk::are_in_bounds;
 use design_base::{Query, Rule, Step, is_within};
+use rule_terms::{Next, Taken, Tools, next_of};
 use smallvec::SmallVec;
 
 // Whether the table allows the rest of the parameters.

@@ -5,9 +5,9 @@ ghost use Rattle.rule_table.specs.Verdicts.{verdict};
 ghost use Rattle.rule_table.specs.Work.{work};
 
 use crate::steps::Steps;
-use crate::tools::Tools;
 use crate::verdicts::evaluate;
 use design_base::{Query, Verdict};
+use rule_terms::Tools;
 use std::sync::ledger::Ledger;
 
 /// Whoever answers questions for the code above: afresh, or from verdicts that it keeps, each in a cell of its own.

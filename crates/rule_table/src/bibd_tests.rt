@@ -1,7 +1,7 @@
 // Candidates and premises of block designs, computed elsewhere.
 use crate::tests::{assert_candidates, assert_none, assert_premises};
-use crate::tools::Tools;
 use design_base::{Query, Rule, Step};
+use rule_terms::Tools;
 use std::test::Fail;
 
 fn bibd(v: u16, k: u16, l: u16) -> Query {

@@ -3,9 +3,9 @@ ghost use Rattle.std.specs.Iterator.{YieldsFirst, item_count};
 ghost use Rattle.design_base.specs.Limits.{in_bounds};
 ghost use Rattle.rule_table.specs.Candidates.{candidates};
 
-use crate::tools::Tools;
 use crate::walk::{first_of_rules, following};
 use design_base::{Query, Step};
+use rule_terms::Tools;
 use std::marker::Model;
 
 /// The candidates of a question that are left, in the order of the table: by the number of the rule and then by the parameters. It keeps

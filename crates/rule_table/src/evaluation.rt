@@ -3,14 +3,14 @@ ghost use Rattle.design_base.specs.declared.query.Query.{Query as Question};
 ghost use Rattle.design_base.specs.Limits.{in_bounds};
 ghost use Rattle.rule_table.specs.Asked.{asked};
 ghost use Rattle.rule_table.specs.Progress.{AsksNext, TellsNext, IfAsk, IfDone, answered_next};
-ghost use Rattle.rule_table.specs.Rank.{rank};
+ghost use Rattle.rule_terms.specs.Rank.{rank};
 ghost use Rattle.rule_table.specs.Verdicts.{verdict};
 
 use crate::inquiry::Inquiry;
 use crate::steps::Steps;
-use crate::tools::Tools;
 use crate::turn::Turn;
 use design_base::{Query, Verdict};
+use rule_terms::Tools;
 use std::marker::Model;
 use std::sync::ledger::Ledger;
 

@@ -4,15 +4,15 @@ ghost use Rattle.design_base.specs.declared.query.Query.{Query as Question};
 ghost use Rattle.design_base.specs.Limits.{in_bounds};
 ghost use Rattle.rule_table.specs.Asked.{asked};
 ghost use Rattle.rule_table.specs.Progress.{AsksNext, TellsNext, IfAsk, IfDone, answered_next};
-ghost use Rattle.rule_table.specs.Rank.{rank};
+ghost use Rattle.rule_terms.specs.Rank.{rank};
 ghost use Rattle.rule_table.specs.Verdicts.{verdict};
 
 use crate::allowed::premises;
-use crate::tools::Tools;
 use crate::turn::Turn;
 use crate::walk::{first_of_rules, following};
 use criteria::criterion;
 use design_base::{Criterion, Query, Step, Verdict};
+use rule_terms::Tools;
 use std::marker::Model;
 
 // A walk through the candidates of a question in order, and through the premises of each up to the first that is not Yes. It

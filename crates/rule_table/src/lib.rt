@@ -1,20 +1,13 @@
-//! The table of rules, and the verdicts that follow from it.
+//! The candidates that the table of rules gives to a question, and the verdicts that follow from them.
 #![tactic(auto)]
 
 mod allowed;
 mod asker;
-mod bibd;
 mod candidates;
 mod evaluation;
 mod inquiry;
 mod laws;
-mod next;
-mod sizes;
 mod steps;
-mod table;
-mod taken;
-mod td;
-mod tools;
 mod turn;
 mod verdicts;
 mod walk;
@@ -24,8 +17,8 @@ pub use asker::{Asker, PlainAsker};
 pub use candidates::Candidates;
 pub use evaluation::Evaluation;
 pub use laws::rule_laws;
+pub use rule_terms::Tools;
 pub use steps::Steps;
-pub use tools::Tools;
 pub use turn::Turn;
 pub use verdicts::evaluate;
 

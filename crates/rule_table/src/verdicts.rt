@@ -8,9 +8,9 @@ ghost use Rattle.rule_table.specs.Work.{work};
 
 use crate::evaluation::Evaluation;
 use crate::steps::Steps;
-use crate::tools::Tools;
 use crate::turn::Turn;
 use design_base::{Query, Verdict};
+use rule_terms::Tools;
 use std::sync::ledger::Ledger;
 
 /// The verdict of a question, with the verdict of each premise that it asks for computed afresh: No with the first criterion

@@ -3,14 +3,11 @@ ghost use Rattle.std.specs.List.{AllByRecursion, list_all};
 ghost use Rattle.design_base.specs.declared.limits.TheConstants.{PARAMETER_MAX};
 ghost use Rattle.design_base.specs.Limits.{in_bounds as is_in_bounds};
 ghost use Rattle.design_base.specs.Rules.{title, rules};
-ghost use Rattle.rule_table.specs.Takens.{listed, IsSmall};
+ghost use Rattle.rule_terms.specs.Takens.{listed, IsSmall};
 ghost use Rattle.rule_table.specs.Walks.{head, steps_under, steps_between, steps_behind, steps_by, steps_of, steps_after};
 
-use crate::next::Next;
-use crate::table::next_of;
-use crate::taken::Taken;
-use crate::tools::Tools;
 use design_base::{Query, RULES, Rule, Step, in_bounds, rule_at};
+use rule_terms::{Next, Taken, Tools, next_of};
 
 // Whether each question is in bounds.
 pub(crate) fn are_in_bounds(questions: &[Query]) -> bool

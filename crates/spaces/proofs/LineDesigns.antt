@@ -82,7 +82,7 @@ module _ (q : ℕ) (listed : has_field q ≡ true) where
       let e : suc v + 1 ≡ suc (suc v) = omega arith in
       (less.0 ++ place.0 ∷ [], subst (λ m. ArePlaces (field_product q) q n m (less.0 ++ place.0 ∷ [])) e (places-push (field_product q) q n (suc v) place.0 less.0 less.1 place.1))
 
-  places : (n : ℕ) → (places : List ℕ) × ArePlaces (field_product q) q n (q ^ n) places
+  pub places : (n : ℕ) → (places : List ℕ) × ArePlaces (field_product q) q n (q ^ n) places
   places n = all (q ^ n) refl (some_vectors q n (order_above q listed))
     where
       all : (v : ℕ) → v ≡ q ^ n → 0 < v → (places : List ℕ) × ArePlaces (field_product q) q n (q ^ n) places

@@ -1,5 +1,5 @@
 use Rattle.std.proofs.Common.{◌≡◌}
-use Rattle.rule_table.specs.Rank.{rank}
+use Rattle.rule_terms.specs.Rank.{rank}
 use Rattle.rule_table.specs.Told.{KeptAfter}
 use Rattle.derivations.proofs.Parts.{Unfolding}
 use Rattle.derivations.proofs.unfolding.+unfold.Given as goal

@@ -3,7 +3,7 @@ use Rattle.std.proofs.lemmas.List.{get_or_default}
 use Rattle.counting.specs.Search.{each_passes, is_among}
 use Rattle.design_base.specs.Fields.{powers}
 use Rattle.field_tables.proofs.Listed.{listed_field}
-use Rattle.field_tables.proofs.Upward.{each_upward_here, each_upward_later, upward-none}
+use Rattle.counting.proofs.Upward.{each_upward_here, each_upward_later, upward-none}
 use Rattle.field_tables.proofs.field.generates.Goals as goal
 
 pub returns-then-not-index : goal.returns-then-not-index

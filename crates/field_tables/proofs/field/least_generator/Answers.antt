@@ -3,7 +3,7 @@ use Rattle.std.specs.Prelude.{unwrap_or}
 use Rattle.counting.specs.Search.{first_in}
 use Rattle.design_base.specs.Fields.{gen, is_generator}
 use Rattle.field_tables.proofs.Listed.{listed_field}
-use Rattle.field_tables.proofs.Upward.{first_upward_here, first_upward_later, upward-none}
+use Rattle.counting.proofs.Upward.{first_upward_here, first_upward_later, upward-none}
 use Rattle.field_tables.proofs.field.least_generator.Goals as goal
 
 pub returns-then-branch : goal.returns-then-branch

@@ -1,7 +1,8 @@
 use Rattle.std.proofs.Common.{arith, length, subst, sym, ◌≡◌}
 use Rattle.design_base.proofs.Groups.{oa_from_td}
 use Rattle.design_base.specs.Arrays.{IsOa}
-use Rattle.incidence.proofs.RowsAndBlocks.{left_after, row_room_next, sizes_of_td, steps}
+use Rattle.counting.proofs.Lists.{left_after}
+use Rattle.incidence.proofs.RowsAndBlocks.{row_room_next, sizes_of_td, steps}
 use Rattle.incidence.proofs.arrays.array_of_td.Goals as goal
 
 pub loop-block-init : goal.loop-block-init

@@ -1,6 +1,7 @@
 use Rattle.std.proofs.Common.{[], arith, ◌∷◌}
 use Rattle.design_base.specs.Arrays.{IsRow}
-use Rattle.incidence.proofs.RowsAndBlocks.{left_after, room_next, size_of_rows, steps}
+use Rattle.counting.proofs.Lists.{left_after}
+use Rattle.incidence.proofs.RowsAndBlocks.{room_next, size_of_rows, steps}
 use Rattle.incidence.proofs.arrays.blocks_of_rows.Goals as goal
 
 pub push_block-requires-clause-room : goal.push_block-requires-clause-room

@@ -1,5 +1,5 @@
-use Rattle.rule_table.specs.Table.{terms}
-use Rattle.rule_table.specs.Takens.{listed}
+use Rattle.rule_terms.specs.Table.{terms}
+use Rattle.rule_terms.specs.Takens.{listed}
 use Rattle.rule_table.proofs.Members.{allows_outside}
 use Rattle.rule_table.proofs.allowed.+is_allowed.Goals as goal
 

@@ -1,5 +1,5 @@
 use Rattle.std.proofs.Common.{◌≡◌, ◌-◌, ◌*◌, length}
-use Rattle.rule_table.specs.Takens.{listed}
+use Rattle.rule_terms.specs.Takens.{listed}
 use Rattle.rule_table.specs.Walks.{head, steps_between}
 use Rattle.rule_table.proofs.walk.+first.Given as goal
 

@@ -1,6 +1,7 @@
 use Rattle.std.proofs.Common.{[], ap, arith, ◌*◌, ◌+◌, ◌∷◌}
 use Rattle.design_base.specs.Arrays.{IsRow}
-use Rattle.incidence.proofs.RowsAndBlocks.{left_after, room_next}
+use Rattle.counting.proofs.Lists.{left_after}
+use Rattle.incidence.proofs.RowsAndBlocks.{room_next}
 use Rattle.transversal.proofs.Steps.{length-raised, steps}
 use Rattle.transversal.proofs.blocks.push_raised.Goals as goal
 use Rattle.transversal.specs.Constructions.{raised}

@@ -1,6 +1,7 @@
 use Rattle.std.proofs.Common.{[], ap, arith, length, ◌*◌, ◌+◌, ◌∷◌}
 use Rattle.design_base.specs.Arrays.{IsRow}
-use Rattle.incidence.proofs.RowsAndBlocks.{left_after, room_next}
+use Rattle.counting.proofs.Lists.{left_after}
+use Rattle.incidence.proofs.RowsAndBlocks.{room_next}
 use Rattle.wilson.proofs.Steps.{filled_rows_length, steps}
 use Rattle.wilson.proofs.filling.push_filled.Goals as goal
 use Rattle.wilson.specs.Truncations.{filled_row, filled_rows}

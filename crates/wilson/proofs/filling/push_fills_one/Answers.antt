@@ -1,7 +1,8 @@
 use Rattle.std.proofs.Common.{arith, ◌*◌, ◌+◌}
 use Rattle.std.specs.List.{flat_map}
 use Rattle.design_base.specs.Arrays.{IsRow}
-use Rattle.incidence.proofs.RowsAndBlocks.{left_after, room_next}
+use Rattle.counting.proofs.Lists.{left_after}
+use Rattle.incidence.proofs.RowsAndBlocks.{room_next}
 use Rattle.wilson.proofs.Steps.{steps}
 use Rattle.wilson.proofs.filling.push_fills_one.Goals as goal
 use Rattle.wilson.specs.Truncations.{fill_one}

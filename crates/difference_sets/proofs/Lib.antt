@@ -1,0 +1,11 @@
+pub mod Translations
+pub mod TranslateSteps
+pub mod Rows
+pub mod Subgroups
+pub mod ListedCosets
+pub mod TestedFamilies
+pub mod StepsMeet
+pub mod CosetSteps
+pub mod EntrySteps
+pub mod Buildable
+pub mod Samples

@@ -1,0 +1,12 @@
+-- The rows so far.
+use Rattle.std.proofs.Common.{◌≡◌, ◌*◌, ◌+◌}
+use Rattle.design_base.specs.Fields.{field_product, gen}
+use Rattle.difference_sets.specs.Families.{cosets}
+use Rattle.incidence.specs.Packed.{size_of}
+use Rattle.difference_sets.proofs.cosets.coset_rows.Given as goal
+
+abbrev pub invariant-loop-i : goal.invariant-loop-i
+invariant-loop-i l = record {
+  rows : l.rows ≡ cosets (field_product l.field) (gen l.field) l.z l.e l.f l.i;
+  size : size_of l.rows ≡ l.i * (l.f + l.z + 1);
+}

@@ -1,0 +1,11 @@
+pub mod Traces
+pub mod Sections
+pub mod Forms
+pub mod Arcs
+pub mod ListedArcs
+pub mod Hermitian
+pub mod Unitals
+pub mod ListedUnitals
+pub mod Linear
+pub mod CurveDesigns
+pub mod Samples

@@ -1,0 +1,4 @@
+pub mod Traces
+pub mod Curves
+pub mod Conditions
+pub mod Laws

@@ -1,0 +1,6 @@
+pub mod BibdRules
+pub mod Bounds
+pub mod Grounded
+pub mod PointCounts
+pub mod Rules
+pub mod TdRules

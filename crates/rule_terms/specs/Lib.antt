@@ -1,0 +1,10 @@
+pub mod Terms
+pub mod TdTerms
+pub mod DfTerms
+pub mod BibdTerms
+pub mod GddTerms
+pub mod PbdTerms
+pub mod Table
+pub mod Rank
+pub mod Nexts
+pub mod Takens

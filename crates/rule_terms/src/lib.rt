@@ -1,0 +1,15 @@
+//! The table of rules: at each question the parameters of a rule, its condition and its premises.
+#![tactic(auto)]
+
+mod bibd;
+mod next;
+mod sizes;
+mod table;
+mod taken;
+mod td;
+mod tools;
+
+pub use next::{Next, Premises};
+pub use table::next_of;
+pub use taken::Taken;
+pub use tools::Tools;
