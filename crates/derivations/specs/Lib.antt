@@ -1,6 +1,9 @@
 pub mod Same
 pub mod TdBlocks
 pub mod BibdBlocks
+pub mod DfBlocks
+pub mod GddBlocks
+pub mod PbdBlocks
 pub mod Blocks
 pub mod AllMeet
 pub mod Derivations

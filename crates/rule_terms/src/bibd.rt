@@ -8,8 +8,9 @@ ghost use Rattle.rule_terms.specs.Terms.{terms_at};
 
 use crate::next::{Next, divides, from_to, only, over, times, when};
 use crate::sizes::{complement_cover, is_point_count, is_power, replication_number};
+use crate::curves::{is_arc, is_unital};
 use crate::taken::Taken;
-use design_base::{Query, Rule, is_field_order};
+use design_base::{Group, Query, Rule, is_field_order};
 use std::alloc::Global;
 
 // What the table says of a rule of block designs behind the parameters taken so far.
@@ -25,6 +26,8 @@ pub(crate) fn bibd_next(alloc: Global, v: u16, k: u16, l: u16, rule: Rule, taken
     ensures fits { IsFitting rule (listed taken) result }
 {
     let bibd = |k: u16, l: u16| Query::Bibd { v, k, l };
+    let once = |v: u16, k: u16| Query::Bibd { v, k, l: 1 };
+    let family = |group: Group| Query::Df { group, v, k, l };
     match rule {
         Rule::Whole => when(alloc, k == v, &[]),
         Rule::Pairs => when(alloc, k == 2, &[]),
@@ -54,6 +57,51 @@ pub(crate) fn bibd_next(alloc: Global, v: u16, k: u16, l: u16, rule: Rule, taken
             ),
             _ => unreachable!(),
         },
+        Rule::Unital => match taken {
+            Taken::Zero => only(k - 1),
+            Taken::One(q) => when(alloc, is_unital(v, k, l, q), &[]),
+            _ => unreachable!(),
+        },
+        Rule::Arc => match taken {
+            Taken::Zero => from_to(1, 6),
+            Taken::One(r) => from_to(r + 1, 7),
+            Taken::Two(r, s) => when(alloc, is_arc(v, k, l, r, s), &[]),
+            _ => unreachable!(),
+        },
+        Rule::Developz => when(alloc, true, &[family(Group::Cyclic)]),
+        Rule::Developf => when(alloc, true, &[family(Group::Field)]),
+        Rule::Fill => match taken {
+            Taken::Zero => from_to(k, v / k),
+            Taken::One(g) => only(over(v, g)),
+            Taken::Two(g, u) => when(
+                alloc,
+                l == 1 && times(g, u) == u32::from(v) && k <= g && k <= u,
+                &[Query::Gdd { k, g, u }, once(g, k)],
+            ),
+            _ => unreachable!(),
+        },
+        Rule::Fill1 => match taken {
+            Taken::Zero => from_to(k, (v - 1) / k),
+            Taken::One(g) => only(over(v - 1, g)),
+            Taken::Two(g, u) => when(
+                alloc,
+                l == 1 && times(g, u) == u32::from(v - 1) && k <= g && k <= u,
+                &[Query::Gdd { k, g, u }, once(g + 1, k)],
+            ),
+            _ => unreachable!(),
+        },
+        Rule::Pbd => {
+            let n = (v - 1) / (k - 1);
+            match taken {
+                Taken::Zero => from_to(2, n.saturating_sub(2)),
+                Taken::One(s) => when(
+                    alloc,
+                    l == 1 && 3 <= k && divides(k - 1, v - 1) && 2 <= s && s + 1 < n,
+                    &[Query::Pbd { v: n, s }, once((k - 1) * s + 1, k), once((k - 1) * (s + 1) + 1, k)],
+                ),
+                _ => unreachable!(),
+            }
+        }
         Rule::Sum => match taken {
             Taken::Zero => from_to(1, l / 2),
             Taken::One(i) => when(

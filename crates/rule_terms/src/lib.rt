@@ -2,7 +2,11 @@
 #![tactic(auto)]
 
 mod bibd;
+mod curves;
+mod df;
+mod gdd;
 mod next;
+mod pbd;
 mod sizes;
 mod table;
 mod taken;
