@@ -9,6 +9,7 @@ mod powers;
 mod steps;
 mod translates;
 
+pub use entries::listed_families;
 pub use families::family;
 pub use steps::is_family_step;
 pub use translates::develop;

@@ -1,7 +1,6 @@
 -- The rules of block designs are grounded: a case a rule.
 use Rattle.std.proofs.Common.{◌≡◌, ℕ, ◌+◌, ◌-◌, ◌*◌, ◌/◌, ◌<◌, ◌≤◌, true, arith, refl, inl, inr}
 use Rattle.std.proofs.lemmas.Bool.{eqb-true, leb-true, ltb-true, cases_lt}
-use Rattle.std.proofs.lemmas.Bool.Decides.{nat_tests}
 use Rattle.std.proofs.Math.Nat.{mul-le-mul, mul-le-mul_left, div-mul-le_self, le-div_iff_mul-le}
 use Rattle.design_base.specs.declared.limits.TheConstants.{PREMISES_MAX}
 use Rattle.design_base.specs.declared.query.Group.{Group}
@@ -16,6 +15,8 @@ use Rattle.rule_terms.specs.BibdTerms.{bibd_terms}
 use Rattle.rule_terms.specs.Rank.{rank}
 use Rattle.rule_terms.proofs.Bounds.{bibd_bounds, both, gdd_bounds}
 use Rattle.rule_terms.proofs.Grounded.{IsGrounded}
+use Rattle.rule_terms.proofs.Products.{below_multiple}
+use Rattle.rule_terms.proofs.Ranks.{rank_wide}
 
 less_than_twice : (b r k : ℕ) → b * k < 2 * r * k → b < 2 * r
 less_than_twice b r k h = elim (cases_lt b (2 * r)) [
@@ -59,16 +60,12 @@ family_smaller group v k l = omega arith
 -- no more points, in groups that hold a block
 wide_smaller : (v k g u l : ℕ) → in_bounds (Gdd k g u) ≡ true → k ≤ g → g * u ≤ v → rank (Gdd k g u) < rank (Bibd v k l)
 unfolding rank
-wide_smaller v k g u l b h f = grind (arith, nat_tests, (gdd_bounds k g u b).few)
+wide_smaller v k g u l b h f = omega (arith, rank_wide k g u h, (gdd_bounds k g u b).few)
 
 -- two points fewer
 pbd_smaller : (v k n s l : ℕ) → n + 1 < v → rank (Pbd n s) < rank (Bibd v k l)
 unfolding rank
 pbd_smaller v k n s l h = omega arith
-
--- a group and one point more
-group_smaller : (g u : ℕ) → 2 ≤ g → 2 ≤ u → g + 2 ≤ g * u
-group_smaller g u lg lu = let p : g * 2 ≤ g * u = mul-le-mul_left g lu in omega arith
 
 -- n lines of k - 1 points and a point more are on no more than v
 record AreFewPoints (v k n s : ℕ) : Type 0 where
@@ -106,19 +103,21 @@ bibd_grounded v k l b Fill = λ g u c bounds.
     let few : 2 ≤ PREMISES_MAX = omega arith in
     let many = both _ _ c in
     let wide = both _ _ many.0 in
-    let d = both _ _ wide.0 in
+    let sides = both _ _ wide.0 in
     let h : k ≤ g = leb-true _ _ wide.1 in
-    let e : g * u ≡ v = eqb-true _ _ d.1 in
-    let f = group_smaller g u (omega (arith, (bibd_bounds v k l b).least, h)) (gdd_bounds k g u bounds.0).groups in
+    let e : g * u ≡ v = eqb-true _ _ sides.1 in
+    let d = gdd_bounds k g u bounds.0 in
+    let f = below_multiple u g d.groups d.some in
     record { last = refl; few = few; smaller = (wide_smaller v k g u l bounds.0 h (omega arith), (points_smaller v k g k l (omega arith), tt)) }
 bibd_grounded v k l b Fill1 = λ g u c bounds.
     let few : 2 ≤ PREMISES_MAX = omega arith in
     let many = both _ _ c in
     let wide = both _ _ many.0 in
-    let d = both _ _ wide.0 in
+    let sides = both _ _ wide.0 in
     let h : k ≤ g = leb-true _ _ wide.1 in
-    let e : g * u ≡ v - 1 = eqb-true _ _ d.1 in
-    let f = group_smaller g u (omega (arith, (bibd_bounds v k l b).least, h)) (gdd_bounds k g u bounds.0).groups in
+    let e : g * u ≡ v - 1 = eqb-true _ _ sides.1 in
+    let d = gdd_bounds k g u bounds.0 in
+    let f = below_multiple u g d.groups d.some in
     record { last = refl; few = few; smaller = (wide_smaller v k g u l bounds.0 h (omega arith), (points_smaller v k (g + 1) k l (omega arith), tt)) }
 bibd_grounded v k l b PbdRule = λ s c bounds.
     let few : 3 ≤ PREMISES_MAX = omega arith in

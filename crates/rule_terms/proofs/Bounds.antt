@@ -1,10 +1,10 @@
 -- What it says of numbers that a question is in bounds.
 use Rattle.std.proofs.Common.{◌≡◌, ℕ, ◌*◌, ◌≤◌, Bool, true, false, ◌&&◌, arith, refl}
 use Rattle.std.proofs.lemmas.Bool.Decides.{nat_tests}
-use Rattle.std.proofs.Math.Nat.{mul-le-mul, mul-le-mul_left}
 use Rattle.design_base.specs.declared.limits.TheConstants.{COVER_MAX, GDD_K_MAX, PBD_S_MAX, POINTS_MAX, TD_K_MAX, TD_N_MAX}
 use Rattle.design_base.specs.declared.query.Query.TheVariants.{Bibd, Gdd, Pbd, Td}
 use Rattle.design_base.specs.Limits.{in_bounds}
+use Rattle.rule_terms.proofs.Products.{factors_within}
 
 pub both : (a b : Bool) → (a && b) ≡ true → (a ≡ true) × (b ≡ true)
 both true b e = (refl, e)
@@ -51,20 +51,13 @@ pub record IsGddInBounds (k g u : ℕ) : Type 0 where
   pub small : g ≤ POINTS_MAX
   pub few : u ≤ POINTS_MAX
 
--- a group has no more points than there are, and there are no more groups
-part_of_whole : (g u n : ℕ) → 1 ≤ g → 2 ≤ u → g * u ≤ n → (g ≤ n) × (u ≤ n)
-part_of_whole g u n lg lu h =
-    let p : g * 2 ≤ g * u = mul-le-mul_left g lu in
-    let q : 1 * u ≤ g * u = mul-le-mul lg (omega arith) in
-    (omega arith, omega arith)
-
 pub gdd_bounds : (k g u : ℕ) → in_bounds (Gdd k g u) ≡ true → IsGddInBounds k g u
 unfolding in_bounds
 gdd_bounds k g u e =
     let some : 1 ≤ g = grind (arith, nat_tests) in
     let groups : 2 ≤ u = grind (arith, nat_tests) in
     let points : g * u ≤ POINTS_MAX = grind (arith, nat_tests) in
-    let parts = part_of_whole g u POINTS_MAX some groups points in
+    let parts = factors_within g u POINTS_MAX some (omega arith) points in
     record {
       least = grind (arith, nat_tests);
       narrow = grind (arith, nat_tests);

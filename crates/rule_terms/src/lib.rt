@@ -3,7 +3,10 @@
 
 mod bibd;
 mod curves;
+mod df;
+mod gdd;
 mod next;
+mod pbd;
 mod sizes;
 mod table;
 mod taken;

@@ -7,7 +7,10 @@ ghost use Rattle.rule_terms.specs.Takens.{listed, IsSmall};
 ghost use Rattle.rule_terms.specs.Terms.{terms_at};
 
 use crate::bibd::bibd_next;
+use crate::df::df_next;
+use crate::gdd::gdd_next;
 use crate::next::Next;
+use crate::pbd::pbd_next;
 use crate::taken::Taken;
 use crate::td::td_next;
 use crate::tools::Tools;
@@ -25,9 +28,9 @@ pub fn next_of(tools: &Tools, q: &Query, rule: Rule, taken: Taken) -> Next
 {
     match *q {
         Query::Td { k, n } => td_next(tools.alloc(), k, n, rule, taken),
-        Query::Df { .. } => Next::Nothing,
+        Query::Df { group, v, k, l } => df_next(tools.alloc(), group, v, k, l, rule, taken),
         Query::Bibd { v, k, l } => bibd_next(tools.alloc(), v, k, l, rule, taken),
-        Query::Gdd { .. } => Next::Nothing,
-        Query::Pbd { .. } => Next::Nothing,
+        Query::Gdd { k, g, u } => gdd_next(tools.alloc(), k, g, u, rule, taken),
+        Query::Pbd { v, s } => pbd_next(tools.alloc(), v, s, rule, taken),
     }
 }
