@@ -1,6 +1,10 @@
 pub mod Taken
 pub mod TdBlocks
+pub mod Sizes
+pub mod DirectBibds
+pub mod MadeBibds
 pub mod BibdBlocks
+pub mod DfBlocks
 pub mod Meeting
 pub mod Same
 pub mod Fine

@@ -13,6 +13,7 @@ use Rattle.rule_terms.proofs.Bounds.{both}
 use Rattle.derivations.specs.AllMeet.{AllMeet}
 use Rattle.derivations.specs.Blocks.{blocks, built, CanBuild}
 use Rattle.derivations.proofs.BibdBlocks.{bibd_can_build, bibd_meets}
+use Rattle.derivations.proofs.DfBlocks.{df_can_build, df_meets}
 use Rattle.derivations.proofs.TdBlocks.{td_can_build, td_meets}
 
 allowed : (q : Query) (s : Step) → is_candidate q s ≡ true → allows (terms q s.rule) (four s) ≡ true
@@ -23,7 +24,7 @@ pub step_can_build : (q : Query) (s : Step) (I : List (List (List ℕ))) → in_
     → CanBuild q s.rule s.a s.b s.c s.d I
 unfolding premises terms allows
 step_can_build (Td k n) s I bounds candidate meet = td_can_build k n bounds s.rule s.a s.b s.c s.d I (allowed (Td k n) s candidate) meet
-step_can_build (Df g v k l) s I bounds candidate meet = let e = allowed (Df g v k l) s candidate in cc e
+step_can_build (Df g v k l) s I bounds candidate meet = df_can_build g v k l bounds s.rule s.a s.b s.c s.d I (allowed (Df g v k l) s candidate) meet
 step_can_build (Bibd v k l) s I bounds candidate meet = bibd_can_build v k l bounds s.rule s.a s.b s.c s.d I (allowed (Bibd v k l) s candidate) meet
 step_can_build (Gdd k g u) s I bounds candidate meet = let e = allowed (Gdd k g u) s candidate in cc e
 step_can_build (Pbd v t) s I bounds candidate meet = let e = allowed (Pbd v t) s candidate in cc e
@@ -32,7 +33,7 @@ step_can_build (Pbd v t) s I bounds candidate meet = let e = allowed (Pbd v t) s
 pub built_meets : (q : Query) (s : Step) (I : List (List (List ℕ))) → CanBuild q s.rule s.a s.b s.c s.d I → Meets q (blocks q s I)
 unfolding blocks built
 built_meets (Td k n) s I can = td_meets k n s.rule s.a s.b s.c s.d I can
-built_meets (Df g v k l) s I can = absurd can
+built_meets (Df g v k l) s I can = df_meets g v k l s.rule s.a s.b s.c s.d I can
 built_meets (Bibd v k l) s I can = bibd_meets v k l s.rule s.a s.b s.c s.d I can
 built_meets (Gdd k g u) s I can = absurd can
 built_meets (Pbd v t) s I can = absurd can

@@ -1,5 +1,8 @@
 pub mod Same
 pub mod TdBlocks
+pub mod Sizes
+pub mod DirectBibds
+pub mod MadeBibds
 pub mod BibdBlocks
 pub mod DfBlocks
 pub mod GddBlocks

@@ -7,6 +7,7 @@ ghost use Rattle.derivations.specs.AllMeet.{AllMeet};
 ghost use Rattle.derivations.specs.Blocks.{blocks as blocks_of, CanBuild};
 
 use crate::bibd::build_bibd;
+use crate::df::build_df;
 use crate::td::build_td;
 use design_base::{Memory, Query, Step};
 use incidence::Rows;
@@ -25,6 +26,7 @@ fn build_any(
 {
     match *query {
         Query::Td { k, n } => build_td(alloc, k, n, step, ingredients),
+        Query::Df { group, v, k, l } => build_df(alloc, group, v, k, l, step, ingredients),
         Query::Bibd { v, k, l } => build_bibd(alloc, v, k, l, step, ingredients),
         _ => unreachable!(),
     }

@@ -3,9 +3,12 @@
 
 mod bibd;
 mod building;
+mod df;
+mod direct_bibds;
 mod faults;
 mod laws;
 mod line;
+mod made_bibds;
 mod names;
 mod replaying;
 mod td;

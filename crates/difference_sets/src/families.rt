@@ -11,14 +11,13 @@ ghost use Rattle.difference_sets.specs.FamilySteps.{family_applies};
 use crate::cosets::coset_rows;
 use crate::entries::entry_rows;
 use design_base::{Group, Memory, Query, Rule, Step};
-use field_tables::Fields;
+use field_tables::open_field;
 use incidence::Rows;
 use std::alloc::Global;
 
 // Over the field of `q` elements the first `m` cosets of `f` nonzero elements, and 0 too in each where `z` is 1.
 fn field_rows(
     alloc: Global,
-    fields: &Fields,
     q: u16,
     z: u16,
     e: u16,
@@ -28,8 +27,8 @@ fn field_rows(
     requires { CanBuildCosets q z e f m }
     ensures { IfOk result (λ rows. rows ≡ field_cosets q z e f m) }
 {
-    match fields.field(q) {
-        Some(field) => coset_rows(alloc, field, z, e, f, m),
+    match open_field(alloc, q)? {
+        Some(field) => coset_rows(alloc, &field, z, e, f, m),
         None => unreachable!(),
     }
 }
@@ -38,7 +37,6 @@ fn field_rows(
 #[tactic(auto, unfolding(crate::specs::Families::family_blocks))]
 fn family_rows(
     alloc: Global,
-    fields: &Fields,
     group: Group,
     v: u16,
     k: u16,
@@ -54,13 +52,13 @@ fn family_rows(
     let nonzero = v - 1;
     match rule {
         Rule::Table => entry_rows(alloc, a),
-        Rule::Powers => field_rows(alloc, fields, v, b, a, nonzero / a, 1),
-        Rule::Cosets => field_rows(alloc, fields, v, 0, nonzero / k, k, nonzero / k),
+        Rule::Powers => field_rows(alloc, v, b, a, nonzero / a, 1),
+        Rule::Cosets => field_rows(alloc, v, 0, nonzero / k, k, nonzero / k),
         Rule::Cosets0 => {
             let e = nonzero / (k - 1);
-            field_rows(alloc, fields, v, 1, e, k - 1, e)
+            field_rows(alloc, v, 1, e, k - 1, e)
         }
-        Rule::Halfcosets => field_rows(alloc, fields, v, 0, nonzero / k, k, nonzero / k / 2),
+        Rule::Halfcosets => field_rows(alloc, v, 0, nonzero / k, k, nonzero / k / 2),
         _ => unreachable!(),
     }
 }
@@ -72,24 +70,24 @@ fn family_rows(
 ///
 /// Families of squares are those of R. E. A. C. Paley, On orthogonal matrices (1933), and the families of cosets those of
 /// R. M. Wilson, Cyclotomy and difference families in elementary abelian groups (1972).
-pub fn family(alloc: Global, fields: &Fields, q: &Query, step: &Step) -> Result<Rows, Memory>
+pub fn family(alloc: Global, q: &Query, step: &Step) -> Result<Rows, Memory>
     requires { CanBuildFamily q.now step.now }
     ensures blocks { IfOk result (λ rows. rows ≡ canonical (step_blocks q.now step.now)) }
     ensures design { IfOk result (λ rows. Meets q.now rows) }
 {
-    let rows = base_rows(alloc, fields, q, step)?.canonical()?;
+    let rows = base_rows(alloc, q, step)?.canonical()?;
     Ok(rows)
 }
 
 // The base blocks of a step that applies to a question, in any order.
 #[tactic(auto, unfolding(crate::specs::Families::step_blocks, crate::specs::FamilySteps::is_family_step))]
-fn base_rows(alloc: Global, fields: &Fields, q: &Query, step: &Step) -> Result<Rows, Memory>
+fn base_rows(alloc: Global, q: &Query, step: &Step) -> Result<Rows, Memory>
     requires { CanBuildFamily q.now step.now }
     ensures { IfOk result (λ rows. rows ≡ step_blocks q.now step.now) }
 {
     match *q {
         Query::Df { group, v, k, l } => family_rows(
-            alloc, fields, group, v, k, l, step.rule, step.a, step.b,
+            alloc, group, v, k, l, step.rule, step.a, step.b,
         ),
         _ => unreachable!(),
     }

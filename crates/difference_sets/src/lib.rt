@@ -7,6 +7,7 @@ mod entries;
 mod families;
 mod powers;
 mod steps;
+mod sums;
 mod translates;
 
 pub use entries::listed_families;

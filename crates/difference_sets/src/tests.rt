@@ -1,7 +1,6 @@
 // Families and designs that were listed by another program.
 use crate::{develop, family, is_family_step};
 use design_base::{Group, Query, Rule, Step, in_bounds};
-use field_tables::Fields;
 use incidence::Rows;
 use std::alloc::Global;
 use std::process::Abort;
@@ -19,21 +18,19 @@ fn assert_rows(rt: &impl Abort, rows: &Rows, want: &[&[u16]]) {
 fn assert_family(
     rt: &impl Abort,
     alloc: Global,
-    fields: &Fields,
     q: Query,
     step: Step,
     want: &[&[u16]],
 ) -> Result<(), Fail> {
     assert!(rt; in_bounds(&q));
     assert!(rt; is_family_step(&q, &step));
-    assert_rows(rt, &family(alloc, fields, &q, &step)?, want);
+    assert_rows(rt, &family(alloc, &q, &step)?, want);
     Ok(())
 }
 
 #[test]
 fn families(rt: HostRuntime) -> Result<(), Fail> {
     let alloc = rt.alloc();
-    let fields = Fields::open(alloc)?;
     let over_field = |v: u16, k: u16, l: u16| Query::Df {
         group: Group::Field,
         v,
@@ -44,7 +41,6 @@ fn families(rt: HostRuntime) -> Result<(), Fail> {
     assert_family(
         &rt,
         alloc,
-        &fields,
         over_field(25, 4, 1),
         Step::new(Rule::Table, 6, 0, 0, 0),
         &[&[0, 1, 5, 12], &[0, 2, 10, 24]],
@@ -52,7 +48,6 @@ fn families(rt: HostRuntime) -> Result<(), Fail> {
     assert_family(
         &rt,
         alloc,
-        &fields,
         over_field(13, 4, 1),
         Step::new(Rule::Powers, 4, 1, 0, 0),
         &[&[0, 1, 3, 9]],
@@ -60,7 +55,6 @@ fn families(rt: HostRuntime) -> Result<(), Fail> {
     assert_family(
         &rt,
         alloc,
-        &fields,
         over_field(9, 4, 3),
         step(Rule::Cosets),
         &[&[1, 2, 3, 6], &[4, 5, 7, 8]],
@@ -68,7 +62,6 @@ fn families(rt: HostRuntime) -> Result<(), Fail> {
     assert_family(
         &rt,
         alloc,
-        &fields,
         over_field(5, 3, 3),
         step(Rule::Cosets0),
         &[&[0, 1, 4], &[0, 2, 3]],
@@ -76,7 +69,6 @@ fn families(rt: HostRuntime) -> Result<(), Fail> {
     assert_family(
         &rt,
         alloc,
-        &fields,
         over_field(19, 3, 1),
         step(Rule::Halfcosets),
         &[&[1, 7, 11], &[2, 3, 14], &[4, 6, 9]],
@@ -101,7 +93,6 @@ fn steps_that_do_not_apply(rt: HostRuntime) -> Result<(), Fail> {
 #[test]
 fn designs(rt: HostRuntime) -> Result<(), Fail> {
     let alloc = rt.alloc();
-    let fields = Fields::open(alloc)?;
     let q = Query::Df {
         group: Group::Cyclic,
         v: 7,
@@ -111,7 +102,7 @@ fn designs(rt: HostRuntime) -> Result<(), Fail> {
     let step = Step::new(Rule::Table, 1, 0, 0, 0);
     assert!(&rt; in_bounds(&q));
     assert!(&rt; is_family_step(&q, &step));
-    let base = family(alloc, &fields, &q, &step)?;
+    let base = family(alloc, &q, &step)?;
     let want: [&[u16]; 7] = [
         &[0, 1, 3],
         &[0, 2, 6],
@@ -123,7 +114,7 @@ fn designs(rt: HostRuntime) -> Result<(), Fail> {
     ];
     assert_rows(
         &rt,
-        &develop(alloc, &fields, Group::Cyclic, 7, 3, 1, &base)?,
+        &develop(alloc, Group::Cyclic, 7, 3, 1, &base)?,
         &want,
     );
     let q = Query::Df {
@@ -135,11 +126,11 @@ fn designs(rt: HostRuntime) -> Result<(), Fail> {
     let step = Step::new(Rule::Cosets, 0, 0, 0, 0);
     assert!(&rt; in_bounds(&q));
     assert!(&rt; is_family_step(&q, &step));
-    let base = family(alloc, &fields, &q, &step)?;
+    let base = family(alloc, &q, &step)?;
     let want: [&[u16]; 4] = [&[0, 1, 2], &[0, 1, 3], &[0, 2, 3], &[1, 2, 3]];
     assert_rows(
         &rt,
-        &develop(alloc, &fields, Group::Field, 4, 3, 2, &base)?,
+        &develop(alloc, Group::Field, 4, 3, 2, &base)?,
         &want,
     );
     Ok(())

@@ -2,80 +2,62 @@
 ghost use Rattle.std.specs.Prelude.{◌≡◌, ◌+◌, ◌*◌, ◌<◌, ◌≤◌, ◌++◌, [], ◌∷◌, All, IfOk, OnOk, flat_map, length, map};
 ghost use Rattle.design_base.specs.Blocks.{IsBibd, IsBlock};
 ghost use Rattle.design_base.specs.Canonical.{canonical};
-ghost use Rattle.design_base.specs.Meets.{GroupAt, group_add};
+ghost use Rattle.design_base.specs.Meets.{group_add};
 ghost use Rattle.difference_sets.specs.Conditions.{CanDevelop};
 ghost use Rattle.difference_sets.specs.Develop.{developed, translates_below};
 ghost use Rattle.incidence.specs.Packed.{size_of};
 
+use crate::sums::Sums;
 use design_base::{Group, Memory, PACKED_MAX, POINTS_MAX};
-use field_tables::Fields;
 use incidence::Rows;
 use std::alloc::Global;
 
 // Appends the block with `c` added.
 fn push_translate(
     rows: &mut Rows,
-    fields: &Fields,
-    group: Group,
-    v: u16,
+    sums: &Sums,
     block: &[u16],
     c: u16,
 ) -> Result<(), Memory>
-    requires group { GroupAt group v }
-    requires elements { All (λ x. x < v) block.now }
-    requires element { c < v }
+    requires elements { All (λ x. x < sums.now.1) block.now }
+    requires element { c < sums.now.1 }
     requires few { length block.now ≤ POINTS_MAX }
     requires room { size_of rows.old + length block.now + 1 < PACKED_MAX }
-    ensures ok { OnOk result (rows.new ≡ rows.old ++ map (λ x. group_add group v x c) block.now ∷ []) }
+    ensures ok { OnOk result (rows.new ≡ rows.old ++ map (λ x. group_add sums.now.0 sums.now.1 x c) block.now ∷ []) }
     ensures size { OnOk result (size_of rows.new ≡ size_of rows.old + length block.now + 1) }
 {
     let mut row = [0; POINTS_MAX as usize];
     for (i, x) in block.iter().enumerate() {
-        row[i] = fields.group_add(group, v, *x, c);
+        row[i] = sums.add(*x, c);
     }
     rows.push_row(&row[..block.len()])
 }
 
 // Appends the translates of a block.
 #[tactic(auto, using(crate::proofs::TranslateSteps::steps))]
-fn push_translates(
-    rows: &mut Rows,
-    fields: &Fields,
-    group: Group,
-    v: u16,
-    block: &[u16],
-) -> Result<(), Memory>
-    requires group { GroupAt group v }
-    requires elements { All (λ x. x < v) block.now }
+fn push_translates(rows: &mut Rows, sums: &Sums, block: &[u16]) -> Result<(), Memory>
+    requires elements { All (λ x. x < sums.now.1) block.now }
     requires few { length block.now ≤ POINTS_MAX }
-    requires room { size_of rows.old + v * (length block.now + 1) < PACKED_MAX }
-    ensures ok { OnOk result (rows.new ≡ rows.old ++ translates_below v (group_add group v) block.now) }
-    ensures size { OnOk result (size_of rows.new ≡ size_of rows.old + v * (length block.now + 1)) }
+    requires room { size_of rows.old + sums.now.1 * (length block.now + 1) < PACKED_MAX }
+    ensures ok { OnOk result (rows.new ≡ rows.old ++ translates_below sums.now.1 (group_add sums.now.0 sums.now.1) block.now) }
+    ensures size { OnOk result (size_of rows.new ≡ size_of rows.old + sums.now.1 * (length block.now + 1)) }
 {
-    for c in 0..v {
-        push_translate(rows, fields, group, v, block, c)?;
+    for c in 0..sums.order() {
+        push_translate(rows, sums, block, c)?;
     }
     Ok(())
 }
 
 // Appends the translates of all base blocks, which have `k` elements each.
 #[tactic(auto, using(crate::proofs::TranslateSteps::steps))]
-fn push_developed(
-    rows: &mut Rows,
-    fields: &Fields,
-    group: Group,
-    v: u16,
-    k: u16,
-    base: &Rows,
-) -> Result<(), Memory>
-    requires group { GroupAt group v }
+fn push_developed(rows: &mut Rows, sums: &Sums, k: u16, base: &Rows) -> Result<(), Memory>
     requires few { k ≤ POINTS_MAX }
-    requires blocks { All (IsBlock v (λ size. size ≡ k)) base.now }
-    requires room { size_of rows.old + v * ((k + 1) * length base.now) < PACKED_MAX }
-    ensures { OnOk result (rows.new ≡ rows.old ++ flat_map (translates_below v (group_add group v)) base.now) }
+    requires blocks { All (IsBlock sums.now.1 (λ size. size ≡ k)) base.now }
+    requires room { size_of rows.old + sums.now.1 * ((k + 1) * length base.now) < PACKED_MAX }
+    ensures { OnOk result (rows.new ≡ rows.old ++ flat_map (translates_below sums.now.1 (group_add sums.now.0 sums.now.1)) base.now) }
 {
     for block in base.iter() {
-        push_translates(rows, fields, group, v, block)?;
+        push_translates(rows, sums, block)?;
     }
     Ok(())
 }
@@ -103,7 +85,6 @@ fn with_room(alloc: Global, v: u16, k: u16, l: u16) -> Result<Rows, Memory>
 #[tactic(auto, using(crate::proofs::Translations::develop_room, crate::proofs::Translations::develop_design), unfolding(crate::specs::Develop::developed))]
 pub fn develop(
     alloc: Global,
-    fields: &Fields,
     group: Group,
     v: u16,
     k: u16,
@@ -114,8 +95,9 @@ pub fn develop(
     ensures blocks { IfOk result (λ rows. rows ≡ canonical (developed group v base.now)) }
     ensures design { IfOk result (λ rows. IsBibd rows v k l) }
 {
+    let sums = Sums::open(alloc, group, v)?;
     let mut rows = with_room(alloc, v, k, l)?;
-    push_developed(&mut rows, fields, group, v, k, base)?;
+    push_developed(&mut rows, &sums, k, base)?;
     let blocks = rows.canonical()?;
     Ok(blocks)
 }

@@ -10,7 +10,7 @@ use Rattle.difference_sets.proofs.translates.push_developed.Given as goal
 
 abbrev pub invariant-loop-block : goal.invariant-loop-block
 invariant-loop-block l = record {
-  blocks : l.rows ++ flat_map (translates_below l.v (group_add l.group l.v)) l.block-iterator ≡ l.fn.rows ++ flat_map (translates_below l.v (group_add l.group l.v)) l.base;
-  left : All (IsBlock l.v (λ size. size ≡ l.k)) l.block-iterator;
-  size : size_of l.rows + l.v * ((l.k + 1) * length l.block-iterator) ≡ size_of l.fn.rows + l.v * ((l.k + 1) * length l.base);
+  blocks : l.rows ++ flat_map (translates_below l.sums.1 (group_add l.sums.0 l.sums.1)) l.block-iterator ≡ l.fn.rows ++ flat_map (translates_below l.sums.1 (group_add l.sums.0 l.sums.1)) l.base;
+  left : All (IsBlock l.sums.1 (λ size. size ≡ l.k)) l.block-iterator;
+  size : size_of l.rows + l.sums.1 * ((l.k + 1) * length l.block-iterator) ≡ size_of l.fn.rows + l.sums.1 * ((l.k + 1) * length l.base);
 }

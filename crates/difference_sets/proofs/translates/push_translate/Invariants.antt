@@ -7,5 +7,5 @@ use Rattle.difference_sets.proofs.translates.push_translate.Given as goal
 abbrev pub invariant-loop-i : goal.invariant-loop-i
 invariant-loop-i l = record {
   size : length l.row ≡ POINTS_MAX;
-  elements : take l.i l.row ≡ map (λ x. group_add l.group l.v x l.c) (take l.i l.block);
+  elements : take l.i l.row ≡ map (λ x. group_add l.sums.0 l.sums.1 x l.c) (take l.i l.block);
 }

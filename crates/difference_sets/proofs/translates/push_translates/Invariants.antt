@@ -7,6 +7,6 @@ use Rattle.difference_sets.proofs.translates.push_translates.Given as goal
 
 abbrev pub invariant-loop-c : goal.invariant-loop-c
 invariant-loop-c l = record {
-  blocks : l.rows ≡ l.fn.rows ++ translates_below l.c (group_add l.group l.v) l.block;
+  blocks : l.rows ≡ l.fn.rows ++ translates_below l.c (group_add l.sums.0 l.sums.1) l.block;
   size : size_of l.rows ≡ size_of l.fn.rows + l.c * (length l.block + 1);
 }

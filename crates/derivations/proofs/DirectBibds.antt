@@ -1,0 +1,213 @@
+-- The rules of block designs without premises: a candidate has what its construction needs, and the construction gives the design. A new rule
+-- adds a lemma, and a case to `direct_meets`.
+use Rattle.std.proofs.Common.{◌≡◌, ◌≢◌, ℕ, ◌+◌, ◌-◌, ◌*◌, ◌/◌, ◌%◌, ◌^◌, ◌≤◌, ◌==◌, ◌&&◌, not, true, List, [], ◌∷◌, arith, subst, sym}
+use Rattle.std.specs.Prelude.{nat_lt}
+use Rattle.std.proofs.lemmas.Bool.{eqb-true, leb-true}
+use Rattle.std.proofs.lemmas.Bool.Decides.{nat_tests}
+use Rattle.counting.specs.Division.{divides}
+use Rattle.counting.specs.Search.{◌<=◌}
+use Rattle.design_base.specs.Blocks.{IsBibd}
+use Rattle.design_base.specs.Canonical.{canonical}
+use Rattle.design_base.specs.Fields.{has_field}
+use Rattle.design_base.specs.Geometries.{point_count}
+use Rattle.design_base.specs.Limits.{in_bounds, within}
+use Rattle.design_base.specs.declared.query.Query.TheVariants.{Bibd}
+use Rattle.design_base.specs.declared.rule.Rule.{Rule}
+use Rattle.design_base.specs.declared.rule.Rule.TheVariants.{Whole, Pairs, Omit, Bose, Skolem, Double, Middle, Ordered, Affine, Projective, Unital, Arc}
+use Rattle.design_checks.specs.Findings.{passes_check}
+use Rattle.triple_systems.specs.Bose.{bose_blocks}
+use Rattle.triple_systems.specs.Skolem.{skolem_blocks}
+use Rattle.triple_systems.specs.Double.{double_blocks}
+use Rattle.triple_systems.specs.OneGroup.{middle_blocks, ordered_blocks}
+use Rattle.triple_systems.proofs.BoseSystem.{bose_design}
+use Rattle.triple_systems.proofs.SkolemSystem.{skolem_design}
+use Rattle.triple_systems.proofs.DoubleSystem.{double_design}
+use Rattle.triple_systems.proofs.OneGroup.{middle_design, ordered_design}
+use Rattle.spaces.specs.Lines.{affine_lines, projective_lines}
+use Rattle.spaces.proofs.LineDesigns.{listed_affine, listed_projective}
+use Rattle.spaces.proofs.OwnForm.{own_affine, own_projective}
+use Rattle.plane_curves.specs.Conditions.{arc_size}
+use Rattle.plane_curves.specs.Curves.{arc_blocks, unital_blocks}
+use Rattle.plane_curves.proofs.CurveDesigns.{arcs, unitals}
+use Rattle.gdd_pbd.specs.Basic.{omit_blocks, pair_blocks, whole_blocks}
+use Rattle.gdd_pbd.proofs.BasicDesigns.{pairs_is_bibd, whole_is_bibd}
+use Rattle.gdd_pbd.proofs.Complements.{omit_is_bibd}
+use Rattle.rule_terms.specs.BibdTerms.{bibd_terms}
+use Rattle.rule_terms.specs.Terms.{allows, premises_at}
+use Rattle.rule_terms.proofs.Bounds.{bibd_bounds, both}
+use Rattle.derivations.specs.AllMeet.{AllMeet}
+use Rattle.derivations.specs.BibdBlocks.{CanBuildBibd}
+use Rattle.derivations.specs.DirectBibds.{AreTriples, direct_blocks, CanBuildDirect}
+use Rattle.derivations.proofs.Sizes.{sized, CanOf}
+use Rattle.derivations.proofs.Taken.{taken}
+
+module _ (v k l : ℕ) (bounds : in_bounds (Bibd v k l) ≡ true) where
+  abbrev Can : Rule → Type 0
+  Can = CanOf v k l
+
+  pub whole : Can Whole
+  unfolding bibd_terms allows premises_at CanBuildBibd CanBuildDirect
+  whole a b c d I e meet =
+      let in_range = bibd_bounds v k l bounds in
+      let size : v ≡ k = let t = (both (k == v) _ e).0 in grind (arith, nat_tests) in
+      taken [] (CanBuildBibd v k l Whole a b c d) I meet (record { points = in_range.points; covers = in_range.cover }, size)
+
+  pub pairs : Can Pairs
+  unfolding bibd_terms allows premises_at CanBuildBibd CanBuildDirect
+  pairs a b c d I e meet =
+      let in_range = bibd_bounds v k l bounds in
+      let size : 2 ≡ k = let t = (both (k == 2) _ e).0 in grind (arith, nat_tests) in
+      taken [] (CanBuildBibd v k l Pairs a b c d) I meet (record { points = in_range.points; covers = in_range.cover }, size)
+
+  pub omit : Can Omit
+  unfolding bibd_terms allows premises_at CanBuildBibd CanBuildDirect
+  omit a b c d I e meet =
+      let in_range = bibd_bounds v k l bounds in
+      let t = (both (k == v - 1 && 3 <= v && divides (v - 2) l) _ e).0 in
+      let size : v - 1 ≡ k = grind (arith, nat_tests) in
+      let least : 3 ≤ v = grind (arith, nat_tests) in
+      let times : l % (v - 2) ≡ 0 = grind (arith, nat_tests) in
+      taken [] (CanBuildBibd v k l Omit a b c d) I meet (record { least = least; points = in_range.points; covers = in_range.cover; times = times }, size)
+
+  pub bose : Can Bose
+  unfolding bibd_terms allows premises_at CanBuildBibd CanBuildDirect
+  bose a b c d I e meet =
+      let in_range = bibd_bounds v k l bounds in
+      let t = (both (k == 3 && l == 1 && v % 6 == 3) _ e).0 in
+      let shape : v % 6 ≡ 3 = grind (arith, nat_tests) in
+      let three : 3 ≡ k = grind (arith, nat_tests) in
+      let once : 1 ≡ l = grind (arith, nat_tests) in
+      taken [] (CanBuildBibd v k l Bose a b c d) I meet
+      (record { least = omega (arith, in_range.block); points = in_range.points; shape = shape; three = three; cover = once })
+
+  pub skolem : Can Skolem
+  unfolding bibd_terms allows premises_at CanBuildBibd CanBuildDirect
+  skolem a b c d I e meet =
+      let in_range = bibd_bounds v k l bounds in
+      let t = (both (k == 3 && l == 1 && v % 6 == 1 && 7 <= v) _ e).0 in
+      let shape : v % 6 ≡ 1 = grind (arith, nat_tests) in
+      let three : 3 ≡ k = grind (arith, nat_tests) in
+      let once : 1 ≡ l = grind (arith, nat_tests) in
+      taken [] (CanBuildBibd v k l Skolem a b c d) I meet
+      (record { least = omega (arith, in_range.block); points = in_range.points; shape = shape; three = three; cover = once })
+
+  pub double : Can Double
+  unfolding bibd_terms allows premises_at CanBuildBibd CanBuildDirect
+  double a b c d I e meet =
+      let in_range = bibd_bounds v k l bounds in
+      let t = (both (k == 3 && l == 2 && v % 3 <= 1 && not (v == 7)) _ e).0 in
+      let residue : v % 3 ≢ 2 = λ f. grind (arith, nat_tests) in
+      let seven : v ≢ 7 = λ f. grind (arith, nat_tests) in
+      let three : 3 ≡ k = grind (arith, nat_tests) in
+      let twice : 2 ≡ l = grind (arith, nat_tests) in
+      taken [] (CanBuildBibd v k l Double a b c d) I meet
+      (record { least = omega (arith, in_range.block); points = in_range.points; shape = (residue, seven); three = three; cover = twice })
+
+  pub middle : Can Middle
+  unfolding bibd_terms allows premises_at CanBuildBibd CanBuildDirect
+  middle a b c d I e meet =
+      let in_range = bibd_bounds v k l bounds in
+      let t = (both (k == 3 && l == 3 && v % 2 == 1) _ e).0 in
+      let shape : v % 2 ≡ 1 = grind (arith, nat_tests) in
+      let three : 3 ≡ k = grind (arith, nat_tests) in
+      let times : 3 ≡ l = grind (arith, nat_tests) in
+      taken [] (CanBuildBibd v k l Middle a b c d) I meet
+      (record { least = omega (arith, in_range.block); points = in_range.points; shape = shape; three = three; cover = times })
+
+  pub ordered : Can Ordered
+  unfolding bibd_terms allows premises_at CanBuildBibd CanBuildDirect
+  ordered a b c d I e meet =
+      let in_range = bibd_bounds v k l bounds in
+      let t = (both (k == 3 && l == 6) _ e).0 in
+      let three : 3 ≡ k = grind (arith, nat_tests) in
+      let times : 6 ≡ l = grind (arith, nat_tests) in
+      taken [] (CanBuildBibd v k l Ordered a b c d) I meet
+      (record { least = omega (arith, in_range.block); points = in_range.points; shape = tt; three = three; cover = times })
+
+  pub affine : Can Affine
+  unfolding bibd_terms allows premises_at CanBuildBibd CanBuildDirect
+  affine q m c d I e meet =
+      let in_range = bibd_bounds v k l bounds in
+      let t = (both (k == q && l == 1 && has_field q && 2 <= m && v == q ^ m) _ (both (within 2 (v / q) m) _ (both (within k k q) _ e).1).1).0 in
+      let all = both (k == q && l == 1 && has_field q && 2 <= m) (v == q ^ m) t in
+      let plane = both (k == q && l == 1 && has_field q) (2 <= m) all.0 in
+      let field = both (k == q && l == 1) (has_field q) plane.0 in
+      let sizes = both (k == q) (l == 1) field.0 in
+      let points : q ^ m ≡ v = sym (eqb-true v (q ^ m) all.1) in
+      let dimension : 2 ≤ m = leb-true 2 m plane.1 in
+      taken [] (CanBuildBibd v k l Affine q m c d) I meet (
+        record { listed = field.1; dimension = omega arith; few = omega (arith, in_range.points) },
+        record { all = points; block = sym (eqb-true k q sizes.0); once = sym (eqb-true l 1 sizes.1) },
+      )
+
+  pub projective : Can Projective
+  unfolding bibd_terms allows premises_at CanBuildBibd CanBuildDirect
+  projective q m c d I e meet =
+      let in_range = bibd_bounds v k l bounds in
+      let t = (both (k == q + 1 && l == 1 && has_field q && 2 <= m && v == point_count q m) _ (both (within 2 (v / q) m) _ (both (within (k - 1) (k - 1) q) _ e).1).1).0 in
+      let all = both (k == q + 1 && l == 1 && has_field q && 2 <= m) (v == point_count q m) t in
+      let plane = both (k == q + 1 && l == 1 && has_field q) (2 <= m) all.0 in
+      let field = both (k == q + 1 && l == 1) (has_field q) plane.0 in
+      let sizes = both (k == q + 1) (l == 1) field.0 in
+      let points : point_count q m ≡ v = sym (eqb-true v (point_count q m) all.1) in
+      let dimension : 2 ≤ m = leb-true 2 m plane.1 in
+      taken [] (CanBuildBibd v k l Projective q m c d) I meet (
+        record { listed = field.1; dimension = omega arith; few = omega (arith, in_range.points) },
+        record { all = points; block = sym (eqb-true k (q + 1) sizes.0); once = sym (eqb-true l 1 sizes.1) },
+      )
+
+  pub unital : Can Unital
+  unfolding bibd_terms allows premises_at CanBuildBibd CanBuildDirect
+  unital q b c d I e meet =
+      let in_range = bibd_bounds v k l bounds in
+      let tested = (both (k == q + 1 && l == 1 && v == q ^ 3 + 1 && 2 <= q && has_field (q ^ 2) && passes_check (Bibd v k l) (unital_blocks q)) _ (both (within (k - 1) (k - 1) q) _ e).1).0 in
+      let listed = (both (k == q + 1 && l == 1 && v == q ^ 3 + 1 && 2 <= q && has_field (q ^ 2)) (passes_check (Bibd v k l) (unital_blocks q)) tested).0 in
+      let t = both (k == q + 1 && l == 1 && v == q ^ 3 + 1) (2 <= q) (both (k == q + 1 && l == 1 && v == q ^ 3 + 1 && 2 <= q) (has_field (q ^ 2)) listed).0 in
+      let all = both (k == q + 1 && l == 1) (v == q ^ 3 + 1) t.0 in
+      let sizes = both (k == q + 1) (l == 1) all.0 in
+      let points : q ^ 3 + 1 ≡ v = sym (eqb-true v (q ^ 3 + 1) all.1) in
+      taken [] (CanBuildBibd v k l Unital q b c d) I meet (
+        record { order = leb-true 2 q t.1; points = omega (arith, points, in_range.points) },
+        record { all = points; block = sym (eqb-true k (q + 1) sizes.0); once = sym (eqb-true l 1 sizes.1) },
+      )
+
+  pub arc : Can Arc
+  unfolding bibd_terms allows premises_at CanBuildBibd CanBuildDirect
+  arc r s c d I e meet =
+      let in_range = bibd_bounds v k l bounds in
+      let tested = (both (k == 2 ^ r && l == 1 && v == arc_size r s && 1 <= r && nat_lt r s && s <= 7 && has_field (2 ^ s) && passes_check (Bibd v k l) (arc_blocks r s)) _
+      (both (within (r + 1) 7 s) _ (both (within 1 6 r) _ e).1).1).0 in
+      let listed = (both (k == 2 ^ r && l == 1 && v == arc_size r s && 1 <= r && nat_lt r s && s <= 7 && has_field (2 ^ s)) (passes_check (Bibd v k l) (arc_blocks r s)) tested).0 in
+      let order = both (k == 2 ^ r && l == 1 && v == arc_size r s && 1 <= r && nat_lt r s) (s <= 7) (both (k == 2 ^ r && l == 1 && v == arc_size r s && 1 <= r && nat_lt r s && s <= 7) (has_field (2 ^ s)) listed).0 in
+      let smaller = both (k == 2 ^ r && l == 1 && v == arc_size r s && 1 <= r) (nat_lt r s) order.0 in
+      let some = both (k == 2 ^ r && l == 1 && v == arc_size r s) (1 <= r) smaller.0 in
+      let all = both (k == 2 ^ r && l == 1) (v == arc_size r s) some.0 in
+      let sizes = both (k == 2 ^ r) (l == 1) all.0 in
+      taken [] (CanBuildBibd v k l Arc r s c d) I meet (
+        record { two_points = leb-true 1 r some.1; smaller = grind (arith, nat_tests); listed = leb-true s 7 order.1 },
+        record { all = sym (eqb-true v (arc_size r s) all.1); block = sym (eqb-true k (2 ^ r) sizes.0); once = sym (eqb-true l 1 sizes.1) },
+      )
+
+-- triples under other words
+triples : (B : List (List ℕ)) (v k l times : ℕ) (Shape : Type 0) → AreTriples v k l times Shape → IsBibd B v 3 times → IsBibd B v k l
+triples B v k l times Shape can d = subst (λ x. IsBibd B v x l) can.three (subst (IsBibd B v 3) can.cover d)
+
+pub direct_meets : (v k l : ℕ) (r : Rule) (a b : ℕ) → CanBuildDirect v k l r a b → IsBibd (canonical (direct_blocks v l r a b)) v k l
+unfolding direct_blocks CanBuildDirect
+direct_meets v k l Whole a b can = subst (λ x. IsBibd (canonical (whole_blocks v l)) v x l) can.1 (whole_is_bibd v l)
+direct_meets v k l Pairs a b can = subst (λ x. IsBibd (canonical (pair_blocks v l)) v x l) can.1 (pairs_is_bibd v l)
+direct_meets v k l Omit a b can = subst (λ x. IsBibd (canonical (omit_blocks v l)) v x l) can.1 (omit_is_bibd v l can.0.least can.0.times)
+direct_meets v k l Bose a b can = triples (canonical (bose_blocks v)) v k l 1 _ can (bose_design v can.shape)
+direct_meets v k l Skolem a b can = triples (canonical (skolem_blocks v)) v k l 1 _ can (skolem_design v can.shape (omega (arith, can.least)))
+direct_meets v k l Double a b can = triples (canonical (double_blocks v)) v k l 2 _ can (double_design v can.least can.shape.0 can.shape.1)
+direct_meets v k l Middle a b can = triples (canonical (middle_blocks v)) v k l 3 _ can (middle_design v can.shape)
+direct_meets v k l Ordered a b can = triples (canonical (ordered_blocks v)) v k l 6 _ can (ordered_design v can.least)
+direct_meets v k l Affine q m can = sized (canonical (affine_lines q m)) v k l (q ^ m) q can.1 (subst (λ D. IsBibd D (q ^ m) q 1) (sym (own_affine q m)) (listed_affine q can.0.listed m))
+direct_meets v k l Projective q m can = sized (canonical (projective_lines q m)) v k l (point_count q m) (q + 1) can.1
+    (subst (λ D. IsBibd D (point_count q m) (q + 1) 1) (sym (own_projective q m)) (listed_projective q can.0.listed m))
+direct_meets v k l Unital q b can = sized (canonical (unital_blocks q)) v k l (q ^ 3 + 1) (q + 1) can.1 (unitals q can.0)
+direct_meets v k l Arc r s can = sized (canonical (arc_blocks r s)) v k l (arc_size r s) (2 ^ r) can.1 (arcs r s can.0)
+direct_meets v k l r a b can = absurd can
+
+-- for the functions that list the lines of geometries
+pub ruleset own_forms = (own_affine, own_projective)
