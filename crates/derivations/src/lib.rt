@@ -23,4 +23,6 @@ pub use unfolding::derive;
 #[cfg(test)]
 mod bibd_tests;
 #[cfg(test)]
+mod df_tests;
+#[cfg(test)]
 mod tests;
