@@ -1,5 +1,6 @@
 // The difference families that are listed one by one.
 ghost use Rattle.std.specs.Prelude.{◌≡◌, ◌+◌, ◌<◌, ◌≤◌, ◌++◌, IfOk, OnOk, length, map};
+ghost use Rattle.design_base.specs.declared.limits.TheConstants.{PARAMETER_MAX};
 ghost use Rattle.difference_sets.specs.FamilySteps.{is_family_over, is_listed_family};
 ghost use Rattle.incidence.specs.Packed.{size_of};
 ghost use Rattle.difference_sets.specs.Listed.{families, family_at};
@@ -19,8 +20,11 @@ pub struct Entry {
     blocks: &'static [&'static [u16]],
 }
 
+// How many families are listed.
+const FAMILIES: u16 = 11;
+
 // The families in the order of their numbers.
-const ENTRIES: [Entry; 11] = [
+const ENTRIES: [Entry; FAMILIES as usize] = [
     Entry {
         group: Group::Cyclic,
         v: 7,
@@ -99,6 +103,15 @@ const ENTRIES: [Entry; 11] = [
         blocks: &[&[0, 1, 3, 13, 34], &[0, 4, 9, 23, 45], &[0, 6, 17, 24, 32]],
     },
 ];
+
+/// How many families are listed, and so the largest number of one.
+#[tactic(auto, unfolding(crate::specs::Listed::families))]
+pub fn listed_families() -> u16
+    ensures value { result ≡ length families }
+    ensures small { result ≤ PARAMETER_MAX }
+{
+    FAMILIES
+}
 
 fn entries() -> &'static [Entry]
     ensures { map seen result.now ≡ families }

@@ -10,6 +10,7 @@ mod steps;
 mod sums;
 mod translates;
 
+pub use entries::listed_families;
 pub use families::family;
 pub use steps::is_family_step;
 pub use translates::develop;

@@ -1,6 +1,12 @@
 pub mod BibdRules
 pub mod Bounds
+pub mod CurveMeets
+pub mod DfRules
+pub mod GddRules
 pub mod Grounded
+pub mod PbdRules
 pub mod PointCounts
+pub mod Products
+pub mod Ranks
 pub mod Rules
 pub mod TdRules

@@ -1,6 +1,6 @@
 -- The rules of block designs of v points with blocks of k points, each two points in l blocks, in their order. Ranges end where the
 -- condition can hold no more, so that a walk through them ends early; the condition keeps the whole of what the rule asks.
-use Rattle.std.specs.Prelude.{ℕ, ◌+◌, ◌-◌, ◌*◌, ◌/◌, ◌%◌, ◌^◌, ◌==◌, nat_lt, not, ◌&&◌, [], ◌∷◌}
+use Rattle.std.specs.Prelude.{ℕ, ◌+◌, ◌-◌, ◌*◌, ◌/◌, ◌%◌, ◌^◌, ◌==◌, true, nat_lt, not, ◌&&◌, [], ◌∷◌}
 use Rattle.counting.specs.Division.{divides}
 use Rattle.counting.specs.Search.{◌<=◌}
 use Rattle.design_base.specs.declared.query.Group.TheVariants.{Cyclic, Field}

@@ -1,17 +1,44 @@
-ghost use Rattle.std.specs.Prelude.{◌≡◌, ◌≤◌, length};
-ghost use Rattle.design_base.specs.declared.limits.TheConstants.{COVER_MAX, POINTS_MAX};
+ghost use Rattle.std.specs.Prelude.{◌≡◌, ◌≤◌, [], ◌∷◌, length};
+ghost use Rattle.design_base.specs.declared.limits.TheConstants.{COVER_MAX, PARAMETER_MAX, POINTS_MAX};
 ghost use Rattle.design_base.specs.Rules.{title};
+ghost use Rattle.design_base.specs.declared.rule.Rule.TheVariants.{Pbd};
 ghost use Rattle.rule_terms.specs.BibdTerms.{bibd_terms};
-ghost use Rattle.rule_terms.specs.Nexts.{IsNext, IsFitting};
+ghost use Rattle.rule_terms.specs.Nexts.{IsFew, IsFitting, IsNext};
 ghost use Rattle.rule_terms.specs.Takens.{listed, IsSmall};
 ghost use Rattle.rule_terms.specs.Terms.{terms_at};
 
+use crate::curves::{is_arc, is_unital};
 use crate::next::{Next, divides, from_to, only, over, times, when};
 use crate::sizes::{complement_cover, is_point_count, is_power, replication_number};
-use crate::curves::{is_arc, is_unital};
 use crate::taken::Taken;
 use design_base::{Group, Query, Rule, is_field_order};
 use std::alloc::Global;
+
+// What the table says of the rule that puts lines of s and of s + 1 times k - 1 points through one point.
+#[tactic(auto, unfolding(crate::specs::BibdTerms::bibd_terms))]
+fn of_lines(alloc: Global, v: u16, k: u16, l: u16, s: u16) -> Next
+    requires least { 2 ≤ k }
+    requires block { k ≤ v }
+    requires points { v ≤ POINTS_MAX }
+    requires small { s ≤ PARAMETER_MAX }
+    ensures next { IsNext (terms_at (bibd_terms v k l Pbd) (s ∷ [])) result }
+    ensures few { IsFew result }
+{
+    let n = (v - 1) / (k - 1);
+    if !(l == 1 && 3 <= k && divides(k - 1, v - 1) && 2 <= s && s + 1 < n) {
+        return Next::Nothing;
+    }
+    let once = |v: u16| Query::Bibd { v, k, l: 1 };
+    when(
+        alloc,
+        true,
+        &[
+            Query::Pbd { v: n, s },
+            once((k - 1) * s + 1),
+            once((k - 1) * (s + 1) + 1),
+        ],
+    )
+}
 
 // What the table says of a rule of block designs behind the parameters taken so far.
 #[tactic(auto, unfolding(crate::specs::BibdTerms::bibd_terms))]
@@ -90,18 +117,11 @@ pub(crate) fn bibd_next(alloc: Global, v: u16, k: u16, l: u16, rule: Rule, taken
             ),
             _ => unreachable!(),
         },
-        Rule::Pbd => {
-            let n = (v - 1) / (k - 1);
-            match taken {
-                Taken::Zero => from_to(2, n.saturating_sub(2)),
-                Taken::One(s) => when(
-                    alloc,
-                    l == 1 && 3 <= k && divides(k - 1, v - 1) && 2 <= s && s + 1 < n,
-                    &[Query::Pbd { v: n, s }, once((k - 1) * s + 1, k), once((k - 1) * (s + 1) + 1, k)],
-                ),
-                _ => unreachable!(),
-            }
-        }
+        Rule::Pbd => match taken {
+            Taken::Zero => from_to(2, ((v - 1) / (k - 1)).saturating_sub(2)),
+            Taken::One(s) => of_lines(alloc, v, k, l, s),
+            _ => unreachable!(),
+        },
         Rule::Sum => match taken {
             Taken::Zero => from_to(1, l / 2),
             Taken::One(i) => when(

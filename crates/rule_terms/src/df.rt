@@ -10,13 +10,21 @@ ghost use Rattle.rule_terms.specs.Terms.{terms_at};
 use crate::next::{Next, from_to, when};
 use crate::taken::Taken;
 use design_base::{Group, Query, Rule, Step};
-use difference_sets::is_family_step;
+use difference_sets::{is_family_step, listed_families};
 use std::alloc::Global;
 
 // What the table says of a rule of difference families behind the parameters taken so far. Whether the family of a step passes its check is
 // known in closed form.
 #[tactic(auto, unfolding(crate::specs::DfTerms::df_terms))]
-pub(crate) fn df_next(alloc: Global, group: Group, v: u16, k: u16, l: u16, rule: Rule, taken: Taken) -> Next
+pub(crate) fn df_next(
+    alloc: Global,
+    group: Group,
+    v: u16,
+    k: u16,
+    l: u16,
+    rule: Rule,
+    taken: Taken,
+) -> Next
     requires bounds { in_bounds (Df group v k l) ≡ true }
     requires small { IsSmall taken }
     requires count { length (listed taken) ≤ (title rule).parameters }
@@ -27,7 +35,7 @@ pub(crate) fn df_next(alloc: Global, group: Group, v: u16, k: u16, l: u16, rule:
     let is_family = |a: u16, b: u16| is_family_step(&query, &Step::new(rule, a, b, 0, 0));
     match rule {
         Rule::Table => match taken {
-            Taken::Zero => from_to(1, FAMILIES),
+            Taken::Zero => from_to(1, listed_families()),
             Taken::One(entry) => when(alloc, is_family(entry, 0), &[]),
             _ => unreachable!(),
         },

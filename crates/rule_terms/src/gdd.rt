@@ -42,11 +42,13 @@ pub(crate) fn gdd_next(alloc: Global, k: u16, g: u16, u: u16, rule: Rule, taken:
         },
         Rule::Split => match taken {
             Taken::Zero => from_to(2, u / 2),
-            Taken::One(c) => when(
+            Taken::One(c) if c <= u => when(
                 alloc,
                 2 <= c && divides(c, u) && 2 <= over(u, c),
                 &[gdd(k, g * c, over(u, c)), gdd(k, g, c)],
             ),
+            // A part has no more groups than there are.
+            Taken::One(_) => Next::Nothing,
             _ => unreachable!(),
         },
         _ => Next::Nothing,

@@ -1,0 +1,106 @@
+-- The designs on curves meet their questions, so that their lists need no check.
+use Rattle.std.proofs.Common.{Bool, List, ap, arith, false, inl, inr, refl, subst, sym, true, ℕ, ◌&&◌, ◌+◌, ◌-◌, ◌<◌, ◌==◌, ◌^◌, ◌∙◌, ◌≡◌, ◌≤◌}
+use Rattle.std.proofs.Math.Nat.{pow-le-pow_left, pow-le-pow_right}
+use Rattle.std.proofs.lemmas.Bool.{cases_lt, eqb-true, leb-true, ltb-true}
+use Rattle.std.specs.Prelude.{nat_lt}
+use Rattle.counting.specs.Search.{each_passes, first_in, ◌<=◌}
+use Rattle.counting.specs.Sums.{join_below, list_below}
+use Rattle.design_base.specs.Blocks.{IsBibd}
+use Rattle.design_base.specs.Canonical.{canonical}
+use Rattle.design_base.specs.Fields.{has_field, modulus_of, moduli}
+use Rattle.design_base.specs.declared.limits.TheConstants.{POINTS_MAX}
+use Rattle.design_base.specs.declared.query.Query.TheVariants.{Bibd}
+use Rattle.design_checks.proofs.Meeting.{passes_meets}
+use Rattle.design_checks.specs.Findings.{passes_check}
+use Rattle.field_tables.proofs.Search.{passes_below}
+use Rattle.plane_curves.proofs.CurveDesigns.{arcs, unitals}
+use Rattle.plane_curves.proofs.ListedArcs.{even_field}
+use Rattle.plane_curves.specs.Conditions.{arc_size}
+use Rattle.plane_curves.specs.Curves.{arc_blocks, unital_blocks}
+use Rattle.rule_terms.proofs.Bounds.{both}
+
+-- a test more that holds where the others do
+also : (a b : Bool) → (a ≡ true → b ≡ true) → a ≡ (a && b)
+also true b h = sym (h refl)
+also false b h = refl
+
+squares_listed : each_passes (λ q. has_field (q ^ 2)) (list_below 4 (λ i. 2 + i)) ≡ true
+unfolding each_passes first_in join_below modulus_of moduli
+squares_listed = refl
+
+square_listed : (q : ℕ) → 2 ≤ q → q ≤ 5 → has_field (q ^ 2) ≡ true
+square_listed q l m = subst (λ x. has_field (x ^ 2) ≡ true) (let e : 2 + (q - 2) ≡ q = omega arith in e) (passes_below (λ q. has_field (q ^ 2)) 4 (λ i. 2 + i) squares_listed (q - 2) (omega arith))
+
+few_orders : (q : ℕ) → q ^ 3 + 1 ≤ POINTS_MAX → q ≤ 5
+few_orders q h = elim (cases_lt q 6) [
+  | inl l ↦ omega arith
+  | inr l ↦ (let more : 6 ^ 3 ≤ q ^ 3 = pow-le-pow_left l 3 in absurd (omega (arith, more)))
+]
+
+bibd_passes : (v w k m l : ℕ) (B : List (List ℕ)) → v ≡ w → k ≡ m → l ≡ 1 → IsBibd (canonical B) w m 1 → passes_check (Bibd v k l) B ≡ true
+bibd_passes v w k m l B points block once design =
+    ap (λ v. passes_check (Bibd v k l) B) points
+    ∙ ap (λ k. passes_check (Bibd w k l) B) block
+    ∙ ap (λ l. passes_check (Bibd w m l) B) once
+    ∙ (passes_meets (Bibd w m 1) B).1 design
+
+-- what is asked of the numbers of a unital
+record IsUnitalSize (v k l q : ℕ) : Type 0 where
+  pub block : k ≡ q + 1
+  pub once : l ≡ 1
+  pub points : v ≡ q ^ 3 + 1
+  pub order : 2 ≤ q
+
+unital_size : (v k l q : ℕ) → (k == q + 1 && l == 1 && v == q ^ 3 + 1 && 2 <= q) ≡ true → IsUnitalSize v k l q
+unital_size v k l q e =
+    let c = both _ _ e in
+    let b = both _ _ c.0 in
+    let a = both _ _ b.0 in
+    record { block = eqb-true _ _ a.0; once = eqb-true _ _ a.1; points = eqb-true _ _ b.1; order = leb-true _ _ c.1 }
+
+unital_listed : (v k l q : ℕ) → v ≤ POINTS_MAX → IsUnitalSize v k l q → has_field (q ^ 2) ≡ true
+unital_listed v k l q few h = square_listed q h.order (few_orders q (omega (arith, few, h.points)))
+
+unital_passes : (v k l q : ℕ) → v ≤ POINTS_MAX → IsUnitalSize v k l q → passes_check (Bibd v k l) (unital_blocks q) ≡ true
+unital_passes v k l q few h =
+    bibd_passes v (q ^ 3 + 1) k (q + 1) l (unital_blocks q) h.points h.block h.once (unitals q (record { order = h.order; points = omega (arith, few, h.points) }))
+
+pub unital_meets : (v k l q : ℕ) → v ≤ POINTS_MAX →
+    (k == q + 1 && l == 1 && v == q ^ 3 + 1 && 2 <= q) ≡ (k == q + 1 && l == 1 && v == q ^ 3 + 1 && 2 <= q && has_field (q ^ 2) && passes_check (Bibd v k l) (unital_blocks q))
+unital_meets v k l q few =
+    also (k == q + 1 && l == 1 && v == q ^ 3 + 1 && 2 <= q) (has_field (q ^ 2)) (λ e. unital_listed v k l q few (unital_size v k l q e))
+    ∙ also (k == q + 1 && l == 1 && v == q ^ 3 + 1 && 2 <= q && has_field (q ^ 2)) (passes_check (Bibd v k l) (unital_blocks q)) (λ e. unital_passes v k l q few (unital_size v k l q (both _ _ e).0))
+
+pub power_small : (n : ℕ) → n ≤ 14 → 2 ^ n ≤ 2 ^ 14
+power_small n h = pow-le-pow_right (let e : 0 < 2 = omega arith in e) h
+
+-- what is asked of the numbers of an arc
+record IsArcSize (v k l r s : ℕ) : Type 0 where
+  pub block : k ≡ 2 ^ r
+  pub once : l ≡ 1
+  pub points : v ≡ arc_size r s
+  pub two : 1 ≤ r
+  pub smaller : r < s
+  pub listed : s ≤ 7
+
+arc_numbers : (v k l r s : ℕ) → (k == 2 ^ r && l == 1 && v == arc_size r s && 1 <= r && nat_lt r s && s <= 7) ≡ true → IsArcSize v k l r s
+arc_numbers v k l r s g =
+    let e = both _ _ g in
+    let d = both _ _ e.0 in
+    let c = both _ _ d.0 in
+    let b = both _ _ c.0 in
+    let a = both _ _ b.0 in
+    record { block = eqb-true _ _ a.0; once = eqb-true _ _ a.1; points = eqb-true _ _ b.1; two = leb-true _ _ c.1; smaller = ltb-true _ _ d.1; listed = leb-true _ _ e.1 }
+
+arc_listed : (v k l r s : ℕ) → IsArcSize v k l r s → has_field (2 ^ s) ≡ true
+arc_listed v k l r s h = (even_field s (omega (arith, h.two, h.smaller)) h.listed).0
+
+arc_passes : (v k l r s : ℕ) → IsArcSize v k l r s → passes_check (Bibd v k l) (arc_blocks r s) ≡ true
+arc_passes v k l r s h =
+    bibd_passes v (arc_size r s) k (2 ^ r) l (arc_blocks r s) h.points h.block h.once (arcs r s (record { two_points = h.two; smaller = h.smaller; listed = h.listed }))
+
+pub arc_meets : (v k l r s : ℕ) →
+    (k == 2 ^ r && l == 1 && v == arc_size r s && 1 <= r && nat_lt r s && s <= 7) ≡ (k == 2 ^ r && l == 1 && v == arc_size r s && 1 <= r && nat_lt r s && s <= 7 && has_field (2 ^ s) && passes_check (Bibd v k l) (arc_blocks r s))
+arc_meets v k l r s =
+    also (k == 2 ^ r && l == 1 && v == arc_size r s && 1 <= r && nat_lt r s && s <= 7) (has_field (2 ^ s)) (λ e. arc_listed v k l r s (arc_numbers v k l r s e))
+    ∙ also (k == 2 ^ r && l == 1 && v == arc_size r s && 1 <= r && nat_lt r s && s <= 7 && has_field (2 ^ s)) (passes_check (Bibd v k l) (arc_blocks r s)) (λ e. arc_passes v k l r s (arc_numbers v k l r s (both _ _ e).0))
