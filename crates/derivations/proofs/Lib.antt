@@ -1,6 +1,9 @@
 pub mod Taken
 pub mod TdBlocks
 pub mod BibdBlocks
+pub mod Ingredients
+pub mod GddBlocks
+pub mod PbdBlocks
 pub mod Meeting
 pub mod Same
 pub mod Fine

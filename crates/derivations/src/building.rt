@@ -7,6 +7,8 @@ ghost use Rattle.derivations.specs.AllMeet.{AllMeet};
 ghost use Rattle.derivations.specs.Blocks.{blocks as blocks_of, CanBuild};
 
 use crate::bibd::build_bibd;
+use crate::gdd::build_gdd;
+use crate::pbd::build_pbd;
 use crate::td::build_td;
 use design_base::{Memory, Query, Step};
 use incidence::Rows;
@@ -26,6 +28,8 @@ fn build_any(
     match *query {
         Query::Td { k, n } => build_td(alloc, k, n, step, ingredients),
         Query::Bibd { v, k, l } => build_bibd(alloc, v, k, l, step, ingredients),
+        Query::Gdd { k, g, u } => build_gdd(alloc, k, g, u, step, ingredients),
+        Query::Pbd { v, s } => build_pbd(alloc, v, s, step, ingredients),
         _ => unreachable!(),
     }
 }

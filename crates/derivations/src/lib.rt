@@ -3,10 +3,13 @@
 
 mod bibd;
 mod building;
+mod copies;
 mod faults;
+mod gdd;
 mod laws;
 mod line;
 mod names;
+mod pbd;
 mod replaying;
 mod td;
 mod unfolding;
@@ -19,5 +22,7 @@ pub use unfolding::derive;
 
 #[cfg(test)]
 mod bibd_tests;
+#[cfg(test)]
+mod gdd_tests;
 #[cfg(test)]
 mod tests;
