@@ -5,6 +5,9 @@ pub mod DirectBibds
 pub mod MadeBibds
 pub mod BibdBlocks
 pub mod DfBlocks
+pub mod Ingredients
+pub mod GddBlocks
+pub mod PbdBlocks
 pub mod Meeting
 pub mod Same
 pub mod Fine

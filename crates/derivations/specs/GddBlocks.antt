@@ -1,6 +1,6 @@
 -- What the steps of group divisible designs make: for each rule the block list, from those of the premises, and what its construction
 -- needs. The rules stand in the order of the table.
-use Rattle.std.specs.Prelude.{ℕ, ◌≡◌, ◌≤◌, ◌+◌, ◌-◌, ◌*◌, ◌/◌, List, [], ◌∷◌}
+use Rattle.std.specs.Prelude.{ℕ, ◌≡◌, ◌+◌, ◌-◌, ◌*◌, ◌/◌, List, [], ◌∷◌}
 use Rattle.design_base.specs.Blocks.{IsBibd, IsTd}
 use Rattle.design_base.specs.declared.rule.Rule.{Rule}
 use Rattle.design_base.specs.declared.rule.Rule.TheVariants.{Td, Points, GddDelete, Weight, Split}
@@ -13,7 +13,7 @@ use Rattle.gdd_pbd.specs.Weighting.{weight}
 unfoldable pub gdd_blocks : ℕ → ℕ → ℕ → Rule → ℕ → ℕ → ℕ → ℕ → List (List (List ℕ)) → List (List ℕ)
 gdd_blocks k g u Td a b c d (A ∷ []) = A
 gdd_blocks k g u Points a b c d (A ∷ []) = A
-gdd_blocks k g u GddDelete a b c d (A ∷ []) = delete_last g u A
+gdd_blocks k g u GddDelete a b c d (A ∷ []) = delete_last (k - 1) u A
 gdd_blocks k g u Weight w s c d (G ∷ D ∷ []) = weight w G D
 gdd_blocks k g u Split c b p d (G ∷ D ∷ []) = fill (g * c) (u / c) G D
 gdd_blocks k g u r a b c d I = []
@@ -22,7 +22,7 @@ gdd_blocks k g u r a b c d I = []
 unfoldable pub CanBuildGdd : ℕ → ℕ → ℕ → Rule → ℕ → ℕ → ℕ → ℕ → List (List (List ℕ)) → Type 0
 CanBuildGdd k g u Td a b c d (A ∷ []) = IsTd A k g × (k ≡ u)
 CanBuildGdd k g u Points a b c d (A ∷ []) = IsBibd A u k 1 × (1 ≡ g)
-CanBuildGdd k g u GddDelete a b c d (A ∷ []) = CanDeletePoint (g * u + 1) k A × (k ≡ g + 1)
+CanBuildGdd k g u GddDelete a b c d (A ∷ []) = CanDeletePoint ((k - 1) * u + 1) k A × (k - 1 ≡ g)
 CanBuildGdd k g u Weight w s c d (G ∷ D ∷ []) = CanWeight k g u w s G D
 CanBuildGdd k g u Split c b p d (G ∷ D ∷ []) = CanSplit k g u c G D
 CanBuildGdd k g u r a b c d I = ⊥

@@ -1,6 +1,6 @@
 -- What the steps of pairwise balanced designs make: for each rule the block list, from those of the premises, and what its construction
 -- needs. The rules stand in the order of the table.
-use Rattle.std.specs.Prelude.{ℕ, ◌≡◌, ◌≤◌, ◌⊎◌, ◌+◌, ◌*◌, List, [], ◌∷◌, None, Some}
+use Rattle.std.specs.Prelude.{ℕ, ◌≡◌, ◌⊎◌, ◌+◌, ◌*◌, List, [], ◌∷◌, None, Some}
 use Rattle.design_base.specs.Blocks.{IsBibd}
 use Rattle.design_base.specs.declared.rule.Rule.{Rule}
 use Rattle.design_base.specs.declared.rule.Rule.TheVariants.{PbdOne, Bibds, Bibdt, PbdDelete, Truncate, Tdfill, Tdfill1}

@@ -10,32 +10,36 @@ use std::process::Abort;
 use std::sync::ledger::{Blank, Ledger};
 use std::test::Fail;
 
-// A block design with `lines` lines in its derivation and `blocks` blocks, which begin with `first` and end with `last`.
+// The design of a question: the step of its verdict, how many lines derive it, how many blocks it has, and the first and the last of them.
 #[derive(Clone, Copy)]
-struct Expected<'a> {
-    v: u16,
-    k: u16,
-    l: u16,
-    lines: usize,
-    blocks: usize,
-    first: &'a [u16],
-    last: &'a [u16],
+pub(crate) struct Expected<'a> {
+    pub query: Query,
+    pub step: Step,
+    pub lines: usize,
+    pub blocks: usize,
+    pub first: &'a [u16],
+    pub last: &'a [u16],
 }
 
-// The derivation of the question leads to that design.
-fn assert_built<L: Ledger>(
+// The step of a rule without parameters.
+pub(crate) fn plain(rule: Rule) -> Step {
+    Step::new(rule, 0, 0, 0, 0)
+}
+
+// The verdict of the question is that step, and its derivation leads to that design.
+pub(crate) fn assert_built<L: Ledger>(
     rt: &impl Abort,
     alloc: Global,
     tools: &Tools,
     steps: &mut Steps<L>,
     expected: &Expected,
 ) -> Result<(), Memory> {
-    let (v, k, l) = (expected.v, expected.k, expected.l);
-    let q = Query::Bibd { v, k, l };
+    let q = expected.query;
     assert!(rt; in_bounds(&q));
     let Verdict::Yes(step) = evaluate(&q, tools, steps) else {
         panic!(rt; "not yes");
     };
+    assert_eq!(rt; step, expected.step);
     let lines = derive(alloc, &q, &step, tools, &mut PlainAsker, steps)?;
     assert_eq!(rt; lines.len(), expected.lines);
     assert!(rt; 0 < lines.len());
@@ -50,7 +54,96 @@ fn assert_built<L: Ledger>(
     Ok(())
 }
 
-// One of each rule.
+fn bibd(v: u16, k: u16, l: u16) -> Query {
+    Query::Bibd { v, k, l }
+}
+
+// One of each rule of small blocks and of all points.
+fn assert_small_blocks<L: Ledger>(
+    rt: &impl Abort,
+    alloc: Global,
+    tools: &Tools,
+    steps: &mut Steps<L>,
+) -> Result<(), Memory> {
+    for (query, step, lines, blocks, first, last) in [
+        (bibd(3, 3, 1), plain(Rule::Whole), 1, 1, [0, 1, 2].as_slice(), [0, 1, 2].as_slice()),
+        (bibd(9, 2, 1), plain(Rule::Pairs), 1, 36, [0, 1].as_slice(), [7, 8].as_slice()),
+        (bibd(4, 3, 2), plain(Rule::Omit), 1, 4, [0, 1, 2].as_slice(), [1, 2, 3].as_slice()),
+        (bibd(9, 3, 1), plain(Rule::Bose), 1, 12, [0, 1, 5].as_slice(), [4, 5, 6].as_slice()),
+        (bibd(7, 3, 1), plain(Rule::Skolem), 1, 7, [0, 1, 3].as_slice(), [3, 4, 6].as_slice()),
+        (bibd(6, 3, 2), plain(Rule::Double), 1, 10, [0, 1, 2].as_slice(), [2, 4, 5].as_slice()),
+        (bibd(5, 3, 3), plain(Rule::Middle), 1, 10, [0, 1, 2].as_slice(), [2, 3, 4].as_slice()),
+        (bibd(8, 3, 6), plain(Rule::Ordered), 1, 56, [0, 1, 2].as_slice(), [5, 6, 7].as_slice()),
+    ] {
+        let expected = Expected {
+            query,
+            step,
+            lines,
+            blocks,
+            first,
+            last,
+        };
+        assert_built(rt, alloc, tools, steps, &expected)?;
+    }
+    Ok(())
+}
+
+// One of each rule of lines and curves.
+fn assert_planes<L: Ledger>(
+    rt: &impl Abort,
+    alloc: Global,
+    tools: &Tools,
+    steps: &mut Steps<L>,
+) -> Result<(), Memory> {
+    for (query, step, lines, blocks, first, last) in [
+        (bibd(16, 4, 1), Step::new(Rule::Affine, 4, 2, 0, 0), 1, 20, [0, 1, 2, 3].as_slice(), [12, 13, 14, 15].as_slice()),
+        (bibd(13, 4, 1), Step::new(Rule::Projective, 3, 2, 0, 0), 1, 13, [0, 1, 2, 3].as_slice(), [3, 7, 9, 10].as_slice()),
+        (bibd(28, 4, 1), Step::new(Rule::Unital, 3, 0, 0, 0), 1, 63, [0, 1, 2, 3].as_slice(), [20, 21, 22, 23].as_slice()),
+        (bibd(52, 4, 1), Step::new(Rule::Arc, 2, 4, 0, 0), 1, 221, [0, 1, 2, 3].as_slice(), [48, 49, 50, 51].as_slice()),
+    ] {
+        let expected = Expected {
+            query,
+            step,
+            lines,
+            blocks,
+            first,
+            last,
+        };
+        assert_built(rt, alloc, tools, steps, &expected)?;
+    }
+    Ok(())
+}
+
+// One of each rule with premises.
+fn assert_made<L: Ledger>(
+    rt: &impl Abort,
+    alloc: Global,
+    tools: &Tools,
+    steps: &mut Steps<L>,
+) -> Result<(), Memory> {
+    for (query, step, lines, blocks, first, last) in [
+        (bibd(15, 7, 3), plain(Rule::Developz), 2, 15, [0, 1, 2, 4, 5, 8, 10].as_slice(), [4, 5, 6, 8, 9, 12, 14].as_slice()),
+        (bibd(7, 3, 2), plain(Rule::Developf), 2, 14, [0, 1, 3].as_slice(), [3, 5, 6].as_slice()),
+        (bibd(25, 4, 1), plain(Rule::Developf), 2, 50, [0, 1, 5, 12].as_slice(), [13, 14, 18, 20].as_slice()),
+        (bibd(105, 5, 1), Step::new(Rule::Fill, 5, 21, 0, 0), 7, 546, [0, 1, 2, 3, 4].as_slice(), [100, 101, 102, 103, 104].as_slice()),
+        (bibd(49, 4, 1), Step::new(Rule::Fill1, 12, 4, 0, 0), 6, 196, [0, 1, 2, 3].as_slice(), [39, 43, 45, 46].as_slice()),
+        (bibd(124, 4, 1), Step::new(Rule::Pbd, 4, 0, 0, 0), 6, 1271, [0, 1, 2, 123].as_slice(), [120, 121, 122, 123].as_slice()),
+        (bibd(9, 3, 4), Step::new(Rule::Sum, 1, 0, 0, 0), 3, 48, [0, 1, 2].as_slice(), [6, 7, 8].as_slice()),
+        (bibd(9, 6, 5), plain(Rule::Complement), 2, 12, [0, 1, 2, 3, 7, 8].as_slice(), [2, 3, 4, 6, 7, 8].as_slice()),
+    ] {
+        let expected = Expected {
+            query,
+            step,
+            lines,
+            blocks,
+            first,
+            last,
+        };
+        assert_built(rt, alloc, tools, steps, &expected)?;
+    }
+    Ok(())
+}
+
 fn assert_block_designs<L: Ledger>(
     rt: &impl Abort,
     alloc: Global,
@@ -62,56 +155,9 @@ fn assert_block_designs<L: Ledger>(
     requires some { 0 < blank.parts }
 {
     let mut steps = Steps::<L>::new(blank);
-    for (v, k, l, lines, blocks, first, last) in [
-        (3, 3, 1, 1, 1, [0, 1, 2].as_slice(), [0, 1, 2].as_slice()),
-        (9, 2, 1, 1, 36, [0, 1].as_slice(), [7, 8].as_slice()),
-        (4, 3, 2, 1, 4, [0, 1, 2].as_slice(), [1, 2, 3].as_slice()),
-        (9, 3, 1, 1, 12, [0, 1, 5].as_slice(), [4, 5, 6].as_slice()),
-        (7, 3, 1, 1, 7, [0, 1, 3].as_slice(), [3, 4, 6].as_slice()),
-        (6, 3, 2, 1, 10, [0, 1, 2].as_slice(), [2, 4, 5].as_slice()),
-        (5, 3, 3, 1, 10, [0, 1, 2].as_slice(), [2, 3, 4].as_slice()),
-        (8, 3, 6, 1, 56, [0, 1, 2].as_slice(), [5, 6, 7].as_slice()),
-        (
-            16,
-            4,
-            1,
-            1,
-            20,
-            [0, 1, 2, 3].as_slice(),
-            [12, 13, 14, 15].as_slice(),
-        ),
-        (
-            13,
-            4,
-            1,
-            1,
-            13,
-            [0, 1, 2, 3].as_slice(),
-            [3, 7, 9, 10].as_slice(),
-        ),
-        (9, 3, 4, 3, 48, [0, 1, 2].as_slice(), [6, 7, 8].as_slice()),
-        (
-            9,
-            6,
-            5,
-            2,
-            12,
-            [0, 1, 2, 3, 7, 8].as_slice(),
-            [2, 3, 4, 6, 7, 8].as_slice(),
-        ),
-    ] {
-        let expected = Expected {
-            v,
-            k,
-            l,
-            lines,
-            blocks,
-            first,
-            last,
-        };
-        assert_built(rt, alloc, tools, &mut steps, &expected)?;
-    }
-    Ok(())
+    assert_small_blocks(rt, alloc, tools, &mut steps)?;
+    assert_planes(rt, alloc, tools, &mut steps)?;
+    assert_made(rt, alloc, tools, &mut steps)
 }
 
 #[test]

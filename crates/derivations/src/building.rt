@@ -8,6 +8,8 @@ ghost use Rattle.derivations.specs.Blocks.{blocks as blocks_of, CanBuild};
 
 use crate::bibd::build_bibd;
 use crate::df::build_df;
+use crate::gdd::build_gdd;
+use crate::pbd::build_pbd;
 use crate::td::build_td;
 use design_base::{Memory, Query, Step};
 use incidence::Rows;
@@ -28,7 +30,8 @@ fn build_any(
         Query::Td { k, n } => build_td(alloc, k, n, step, ingredients),
         Query::Df { group, v, k, l } => build_df(alloc, group, v, k, l, step, ingredients),
         Query::Bibd { v, k, l } => build_bibd(alloc, v, k, l, step, ingredients),
-        _ => unreachable!(),
+        Query::Gdd { k, g, u } => build_gdd(alloc, k, g, u, step, ingredients),
+        Query::Pbd { v, s } => build_pbd(alloc, v, s, step, ingredients),
     }
 }
 

@@ -3,13 +3,16 @@
 
 mod bibd;
 mod building;
+mod copies;
 mod df;
 mod direct_bibds;
 mod faults;
+mod gdd;
 mod laws;
 mod line;
 mod made_bibds;
 mod names;
+mod pbd;
 mod replaying;
 mod td;
 mod unfolding;
@@ -22,5 +25,9 @@ pub use unfolding::derive;
 
 #[cfg(test)]
 mod bibd_tests;
+#[cfg(test)]
+mod df_tests;
+#[cfg(test)]
+mod gdd_tests;
 #[cfg(test)]
 mod tests;
