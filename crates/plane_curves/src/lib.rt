@@ -2,5 +2,7 @@
 #![tactic(auto)]
 
 mod laws;
+mod secants;
+mod vectors;
 
 pub use laws::curve_laws;
