@@ -12,4 +12,6 @@ pub mod Linear
 pub mod CurveDesigns
 pub mod Samples
 
+pub mod SecantLines
 pub mod SecantSteps
+pub mod CurveSteps

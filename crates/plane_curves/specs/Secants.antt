@@ -2,6 +2,7 @@
 use Rattle.std.proofs.Common.{get_or}
 use Rattle.std.specs.Prelude.{ℕ, ◌%◌, ◌/◌, ◌<◌, ◌==◌, Bool, List, filter, length, map}
 use Rattle.counting.specs.Sums.{list_below}
+use Rattle.spaces.specs.Points.{points_below}
 use Rattle.plane_curves.specs.declared.vectors.Vector.{Vector}
 
 -- the digits of a number to the base q, the first one lowest
@@ -14,9 +15,9 @@ pub record IsOver (q : ℕ) (x : Vector) : Type 0 where
   pub b : x.b < q
   pub c : x.c < q
 
--- the vectors of the numbers below a bound that pass a test
-unfoldable pub vectors_below : ℕ → (ℕ → Bool) → ℕ → List Vector
-vectors_below q test bound = map (entries q) (filter test (list_below bound (λ z. z)))
+-- the points of a plane with numbers below a bound that are on a curve
+unfoldable pub curve_points : ℕ → (ℕ → Bool) → ℕ → List Vector
+curve_points q curve bound = map (entries q) (filter curve (points_below q 3 bound))
 
 -- one half of the terms of the cross product of x and y; the other half is that of y and x
 unfoldable pub half_cross : (ℕ → ℕ → ℕ) → Vector → Vector → Vector

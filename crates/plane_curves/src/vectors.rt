@@ -1,8 +1,8 @@
 // Vectors of three entries over a field, and the lines of two of them.
-ghost use Rattle.std.specs.Prelude.{◌≡◌, ◌<◌, ◌==◌};
+ghost use Rattle.std.specs.Prelude.{◌≡◌, ◌<◌, ◌==◌, [], ◌∷◌};
 ghost use Rattle.design_base.specs.Fields.{field_product, field_sum};
 ghost use Rattle.plane_curves.specs.Secants.{IsOver, dot as dot_of, entries as entries_of, half_cross as half_cross_of};
-ghost use Rattle.spaces.specs.Points.{lead as lead_of};
+ghost use Rattle.spaces.specs.Points.{first_nonzero};
 
 use field_tables::Field;
 
@@ -14,14 +14,13 @@ pub struct Vector {
     pub c: u16,
 }
 
-// The vector of a number, whose digits to the base `q` are its entries, the first one lowest.
-#[tactic(auto, unfolding(crate::specs::Secants::entries))]
-pub fn entries(q: u16, z: u32) -> Vector
-    requires { 0 < q }
-    ensures value { result ≡ entries_of q z }
-    ensures below { IsOver q result }
+// The vector of a number, whose digits to the base q are its entries, the first one lowest.
+#[tactic(auto, unfolding(crate::specs::Secants::entries), using(spaces::proofs::Bounds::order_above))]
+pub fn entries(field: &Field, z: u32) -> Vector
+    ensures value { result ≡ entries_of field.now z }
+    ensures over { IsOver field.now result }
 {
-    let q = u32::from(q);
+    let q = u32::from(field.order());
     Vector {
         a: (z % q) as u16,
         b: (z / q % q) as u16,
@@ -31,6 +30,7 @@ pub fn entries(q: u16, z: u32) -> Vector
 
 // The first entry that is not 0, and 0 where there is none.
 pub fn lead(x: Vector) -> u16
+    ensures { result ≡ first_nonzero (x.a ∷ x.b ∷ x.c ∷ []) }
 {
     if x.a != 0 {
         x.a
