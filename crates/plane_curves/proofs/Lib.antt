@@ -4,8 +4,14 @@ pub mod Forms
 pub mod Arcs
 pub mod ListedArcs
 pub mod Hermitian
+pub mod Planes
 pub mod Unitals
 pub mod ListedUnitals
+pub mod OnLines
 pub mod Linear
 pub mod CurveDesigns
 pub mod Samples
+
+pub mod SecantLines
+pub mod SecantSteps
+pub mod CurveSteps
