@@ -30,4 +30,6 @@ mod df_tests;
 #[cfg(test)]
 mod gdd_tests;
 #[cfg(test)]
+mod geometry_tests;
+#[cfg(test)]
 mod tests;
