@@ -1,5 +1,5 @@
 -- The lines of two listed points of a curve are the traces of the plane's lines.
-use Rattle.std.proofs.Common.{Bool, List, [], ◌∷◌, ap, ap₂, arith, cond, get_or, length, map, refl, sym, ℕ, ◌+◌, ◌&&◌, ◌<◌, ◌^◌, ◌∙◌, ◌≡◌}
+use Rattle.std.proofs.Common.{Bool, List, [], ◌∷◌, ap, ap₂, arith, cond, get_or, length, map, refl, sym, true, ℕ, ◌+◌, ◌&&◌, ◌<◌, ◌^◌, ◌∙◌, ◌≡◌}
 use Rattle.std.proofs.lemmas.Bool.{cond_both}
 use Rattle.std.proofs.lemmas.Grind.{same_number_lists}
 use Rattle.std.proofs.lemmas.List.{get_or-map, length-map}
@@ -25,8 +25,8 @@ use Rattle.plane_curves.proofs.SecantLines.{filter-same, is_point, line, listed,
 filter-map : {X Y : Type 0} (p : Y → Bool) (f : X → Y) (xs : List X) → filter p (map f xs) ≡ map f (filter (λ x. p (f x)) xs)
 filter-map p f [] = refl
 filter-map p f (x ∷ xs) = cond_both (p (f x)) _ _ (λ ys. ys ≡ map f (cond (p (f x)) (x ∷ filter (λ x. p (f x)) xs) (filter (λ x. p (f x)) xs)))
-    (λ e. ap (λ ys. f x ∷ ys) (filter-map p f xs) ∙ ap (λ b. map f (cond b (x ∷ filter (λ x. p (f x)) xs) (filter (λ x. p (f x)) xs))) e)
-    (λ e. filter-map p f xs ∙ ap (λ b. map f (cond b (x ∷ filter (λ x. p (f x)) xs) (filter (λ x. p (f x)) xs))) e)
+    (λ e. ap (λ ys. f x ∷ ys) (filter-map p f xs) ∙ ap (λ b. map f (cond b (x ∷ filter (λ x. p (f x)) xs) (filter (λ x. p (f x)) xs))) (sym e))
+    (λ e. filter-map p f xs ∙ ap (λ b. map f (cond b (x ∷ filter (λ x. p (f x)) xs) (filter (λ x. p (f x)) xs))) (sym e))
 
 -- a list by its places
 by_places : (xs : List ℕ) → map (λ i. get_or xs i 0) (list_below (length xs) (λ i. i)) ≡ xs
