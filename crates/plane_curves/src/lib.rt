@@ -56,10 +56,10 @@ pub fn arc(alloc: Global, r: u16, s: u16) -> Result<Rows, Memory>
     ensures blocks { IfOk result (λ rows. rows ≡ canonical (arc_blocks r s)) }
     ensures design { IfOk result (λ rows. IsBibd rows (arc_size r s) (2 ^ r) 1) }
 {
-    let Some(field) = open_field(alloc, 1 << s)? else {
+    let Some(field) = open_field(alloc, 2u16.pow(u32::from(s)))? else {
         unreachable!()
     };
-    let points = arc_points(alloc, &field, 1 << r)?;
+    let points = arc_points(alloc, &field, 2u16.pow(u32::from(r)))?;
     let rows = secants(alloc, &field, &points)?;
     Ok(rows)
 }
