@@ -1,7 +1,7 @@
 //! Block designs on the points of curves in projective planes: the Hermitian unitals and Denniston's arcs.
 #![tactic(auto)]
 
-ghost use Rattle.std.specs.Prelude.{◌≡◌, ◌+◌, ◌^◌, IfOk};
+ghost use Rattle.std.specs.Prelude.{◌≡◌, ◌+◌, ◌^◌, ◌≤◌, IfOk};
 ghost use Rattle.design_base.specs.Blocks.{IsBibd};
 ghost use Rattle.design_base.specs.Canonical.{canonical};
 ghost use Rattle.plane_curves.specs.Conditions.{CanBuildArc, CanBuildUnital, arc_size};
@@ -43,6 +43,14 @@ pub fn unital(alloc: Global, q: u16) -> Result<Rows, Memory>
     Ok(rows)
 }
 
+// 2 ^ n
+fn power_of_two(n: u16) -> u16
+    requires { n ≤ 7 }
+    ensures { result ≡ 2 ^ n }
+{
+    1 << n
+}
+
 /// The maximal arc of degree 2 ^ `r` in the plane over the field of 2 ^ `s` elements, in canonical form: 2 ^ (r + s) + 2 ^ r - 2 ^ s
 /// points, and 2 ^ r points in each block. Its points are (1, x, y) where x ^ 2 + x * y + c * y ^ 2 is below 2 ^ r, for the least c
 /// with which x ^ 2 + x + c has no root; its blocks are the lines that hold points of it.
@@ -56,10 +64,11 @@ pub fn arc(alloc: Global, r: u16, s: u16) -> Result<Rows, Memory>
     ensures blocks { IfOk result (λ rows. rows ≡ canonical (arc_blocks r s)) }
     ensures design { IfOk result (λ rows. IsBibd rows (arc_size r s) (2 ^ r) 1) }
 {
-    let Some(field) = open_field(alloc, 2u16.pow(u32::from(s)))? else {
+    let (order, bound) = (power_of_two(s), power_of_two(r));
+    let Some(field) = open_field(alloc, order)? else {
         unreachable!()
     };
-    let points = arc_points(alloc, &field, 2u16.pow(u32::from(r)))?;
+    let points = arc_points(alloc, &field, bound)?;
     let rows = secants(alloc, &field, &points)?;
     Ok(rows)
 }
