@@ -205,7 +205,7 @@ module _ (q : ℕ) (add mul : ℕ → ℕ → ℕ) (field : IsField q add mul) w
           (line_below q (q ^ 3) add mul sum scale (vectors q add mul field 3) x w.0))
           ∙ on_line_count
 
-    sections : (i j : ℕ) → i < j → j < length P → curve (at i) ≡ true → curve (at j) ≡ true → sum_below (length P) (λ u. one (curve (at u) && holds (at u) (plane_of (at i) (at j)))) ≡ M
+    pub sections : (i j : ℕ) → i < j → j < length P → curve (at i) ≡ true → curve (at j) ≡ true → sum_below (length P) (λ u. one (curve (at u) && holds (at u) (plane_of (at i) (at j)))) ≡ M
     sections i j l m hi hj =
         over_vectors q 3 (λ z. curve z && holds z (plane_of (at i) (at j))) (λ z e. lead_one z (and_parts _ _ e).0)
         ∙ section (at i) (at j) (point_at q add mul field 3 i (omega arith)).small (point_at q add mul field 3 j m).small

@@ -13,5 +13,6 @@ pub mod CurveDesigns
 pub mod Samples
 
 pub mod SecantLines
+pub mod CurveLists
 pub mod SecantSteps
 pub mod CurveSteps

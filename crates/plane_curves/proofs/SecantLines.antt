@@ -105,7 +105,7 @@ module _ (q : ℕ) (add mul : ℕ → ℕ → ℕ) (field : IsField q add mul) (
 
     -- ---- a line by a test of the places
     module _ (on : ℕ → ℕ → ℕ → Bool) (tells : (i j u : ℕ) → i < j → j < v → u < v → on i j u ≡ holds (vector u) (plane (vector i) (vector j))) where
-      pub line : ℕ → ℕ → List ℕ
+      unfoldable pub line : ℕ → ℕ → List ℕ
       line i j = filter (on i j) (list_below v (λ u. u))
 
       holds_line : (i j u : ℕ) → u < v → holds u (line i j) ≡ on i j u

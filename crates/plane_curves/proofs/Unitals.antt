@@ -192,6 +192,9 @@ module _ (q : ℕ) (add mul : ℕ → ℕ → ℕ) (field : IsField q add mul) (
           (pair_below q (q ^ 3) add mul sum scale space lead_of (is_lead q add mul field 3) P place placed first_coefficient second_coefficient are_coefficients i j hi hj ne))
           ∙ on_pair
 
+    pub unital_sections : (i j : ℕ) → i < j → j < N → curve (at i) ≡ true → curve (at j) ≡ true → sum_below N (λ u. one (curve (at u) && holds (at u) (subspace add mul q 3 (at i) (at j)))) ≡ p + 1
+    unital_sections i j l m ci cj = section i j (omega arith) m (λ e. absurd (omega arith)) ci cj
+
     pub unital_design : ((x y : ℕ) → x < y → y < N → cover (projective_lines_over add mul q 3) x y ≡ 1) →
         IsBibd (canonical (trace (points_on curve P) (projective_lines_over add mul q 3))) (length (points_on curve P)) (p + 1) 1
-    unital_design = curve_design q add mul field 3 curve (p + 1) (λ i j l m ci cj. section i j (omega arith) m (λ e. absurd (omega arith)) ci cj)
+    unital_design = curve_design q add mul field 3 curve (p + 1) unital_sections

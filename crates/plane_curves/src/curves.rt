@@ -1,5 +1,5 @@
 // The points of curves in a plane, in the order of their numbers.
-ghost use Rattle.std.specs.Prelude.{◌≡◌, ◌==◌, ◌&&◌, ◌<◌, ◌^◌, All, IfOk, true};
+ghost use Rattle.std.specs.Prelude.{◌≡◌, ◌==◌, ◌&&◌, ◌<◌, ◌^◌, IfOk, true};
 ghost use Rattle.design_base.specs.Fields.{field_product, field_sum, has_field};
 ghost use Rattle.field_tables.specs.Powers.{power as power_of};
 ghost use Rattle.plane_curves.specs.Curves.{is_on_arc, is_power_zero, is_rootless as is_rootless_of, least_rootless as least_rootless_of, quadratic as quadratic_of};
@@ -38,7 +38,8 @@ fn power_sum(field: &Field, x: Vector, n: u16) -> u16
 
 // The number of vectors.
 fn vector_count(field: &Field) -> u32
-    ensures { result ≡ field.now ^ 3 }
+    ensures count { result ≡ field.now ^ 3 }
+    ensures listed { has_field field.now ≡ true }
 {
     u32::from(field.order()).pow(3)
 }
@@ -46,6 +47,7 @@ fn vector_count(field: &Field) -> u32
 // Whether the vector of a number is a point at which the sum of the `n`-th powers of the entries is 0.
 #[tactic(auto, using(crate::proofs::CurveSteps::power_steps), unfolding(crate::specs::Curves::is_power_zero, crate::specs::Secants::entries, spaces::specs::Points::lead))]
 fn is_power_point(field: &Field, n: u16, z: u32) -> bool
+    requires { has_field field.now ≡ true }
     ensures { result ≡ (lead_of field.now 3 z == 1 && is_power_zero (field_sum field.now) (field_product field.now) field.now n z) }
 {
     let x = entries(field, z);
@@ -55,8 +57,7 @@ fn is_power_point(field: &Field, n: u16, z: u32) -> bool
 // The points at which the sum of the `n`-th powers of the entries is 0.
 #[tactic(auto, using(crate::proofs::CurveSteps::curve_steps))]
 pub fn power_points(alloc: Global, field: &Field, n: u16) -> Result<Vec<Vector>, Memory>
-    ensures points { IfOk result (λ points. points.items ≡ curve_points field.now (is_power_zero (field_sum field.now) (field_product field.now) field.now n) (field.now ^ 3)) }
-    ensures over { IfOk result (λ points. All (IsOver field.now) points.items) }
+    ensures { IfOk result (λ points. points.items ≡ curve_points field.now (is_power_zero (field_sum field.now) (field_product field.now) field.now n) (field.now ^ 3)) }
 {
     let mut points = Vec::new(alloc);
     for z in 0..vector_count(field) {
@@ -118,8 +119,7 @@ fn is_arc_point(field: &Field, c: u16, bound: u16, z: u32) -> bool
 // Those points, where x ^ 2 + x + c has no root for the least such c.
 #[tactic(auto, using(crate::proofs::CurveSteps::curve_steps))]
 pub fn arc_points(alloc: Global, field: &Field, bound: u16) -> Result<Vec<Vector>, Memory>
-    ensures points { IfOk result (λ points. points.items ≡ curve_points field.now (is_on_arc (field_sum field.now) (field_product field.now) field.now (least_rootless_of (field_sum field.now) (field_product field.now) field.now) bound) (field.now ^ 3)) }
-    ensures over { IfOk result (λ points. All (IsOver field.now) points.items) }
+    ensures { IfOk result (λ points. points.items ≡ curve_points field.now (is_on_arc (field_sum field.now) (field_product field.now) field.now (least_rootless_of (field_sum field.now) (field_product field.now) field.now) bound) (field.now ^ 3)) }
 {
     let c = least_rootless(field);
     let mut points = Vec::new(alloc);
