@@ -1,4 +1,4 @@
--- What is said of blocks is so: those of each yes are such a design, and exactly such are found valid.
+-- What is said of blocks is so: those of a yes are such a design, and exactly such are found valid.
 use Rattle.std.proofs.Common.{◌≡◌, ◌↔◌, ℕ, ◌+◌, ◌-◌, List, Option, Some, None, ap, arith, refl, subst, sym}
 use Rattle.arrays.proofs.Bounds.{td_bounds}
 use Rattle.arrays.proofs.Passages.{td_iff_oa}
@@ -10,8 +10,8 @@ use Rattle.design_base.specs.Arrays.{IsOa, blocks_of_rows}
 use Rattle.design_base.specs.Blocks.{IsTd}
 use Rattle.design_base.specs.Canonical.{canonical}
 use Rattle.derivations.proofs.Sound.{yes_has_a_design}
-use Rattle.rule_table.proofs.Turns.{none_meets}
-use Rattle.rule_table.specs.Verdicts.{is_yes, verdict}
+use Rattle.derivations.specs.Laws.{YesLaw}
+use Rattle.rule_table.specs.Verdicts.{is_yes}
 use Rattle.design_base.specs.Squares.{IsMols}
 use Rattle.design_checks.specs.declared.finding.Finding.{Finding}
 use Rattle.design_checks.specs.declared.finding.Finding.TheVariants.{Valid}
@@ -19,17 +19,13 @@ use Rattle.design_cli.specs.LineFindings.{line_finding}
 use Rattle.design_base.specs.declared.query.Query.TheVariants.{Td}
 use Rattle.design_checks.proofs.Meeting.{found_meets}
 use Rattle.design_checks.specs.Findings.{finding}
-use Rattle.design_cli.specs.Report.{EachValidAreSquares, EachValidIsArray, EachValidIsDesign}
-use Rattle.design_cli.specs.Decided.{EachNoHasNone, EachYesIsDesigned}
+use Rattle.design_cli.specs.Laws.{ValidLaw, ValidRowsLaw, ValidSquaresLaw}
 
-pub each_yes_is_designed : EachYesIsDesigned
-each_yes_is_designed q bounds s is = yes_has_a_design q bounds (ap is_yes is)
+pub yes_is_designed : YesLaw
+yes_is_designed q s bounds is = yes_has_a_design q bounds (ap is_yes is)
 
-pub each_no_has_none : EachNoHasNone
-each_no_has_none q bounds criterion is B = none_meets q criterion (verdict q) bounds refl is B
-
-pub each_valid_is_design : EachValidIsDesign
-each_valid_is_design q B = found_meets q B (finding q B) refl
+pub valid_is_design : ValidLaw
+valid_is_design q B = found_meets q B (finding q B) refl
 
 -- lines are found valid where none is bad and the blocks that they stand for are
 valid_lines : (bad : Option ℕ) (found : Finding) (P Q : Type 0) → (bad ≡ None → (found ≡ Valid) ↔ P) → (bad ≡ None → P ↔ Q) → (Q → bad ≡ None) → (line_finding bad found ≡ Valid) ↔ Q
@@ -42,8 +38,8 @@ valid_lines bad found P Q valid same good = (to bad refl, λ h. from (good h) h)
     from : bad ≡ None → Q → line_finding bad found ≡ Valid
     from is h = subst (λ o. line_finding o found ≡ Valid) (sym is) ((valid is).1 ((same is).1 h))
 
-pub each_valid_is_array : EachValidIsArray
-each_valid_is_array k n bounds R =
+pub valid_is_array : ValidRowsLaw
+valid_is_array k n bounds R =
     let b = td_bounds k n bounds in
     let B : List (List ℕ) = canonical (blocks_of_rows k n R) in
     valid_lines (bad_row k n R) (finding (Td k n) B) (IsTd B k n) (IsOa R k n)
@@ -51,8 +47,8 @@ each_valid_is_array k n bounds R =
     (λ none. td_iff_oa k n R (rows_from_none k n R none) b.two b.positive)
     (λ oa. none_from_rows k n R oa.rows)
 
-pub each_valid_are_squares : EachValidAreSquares
-each_valid_are_squares k n bounds L =
+pub valid_are_squares : ValidSquaresLaw
+valid_are_squares k n bounds L =
     let b = td_bounds k n bounds in
     let columns : k ≡ k - 2 + 2 = omega (arith, b.two) in
     let B : List (List ℕ) = canonical (blocks_of_rows k n (rows_of_squares (k - 2) n L)) in

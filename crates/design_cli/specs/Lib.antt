@@ -1,5 +1,5 @@
 pub mod BlockText
 pub mod LineFindings
-pub mod Decided
+pub mod Laws
 pub mod Report
 pub mod Runs

@@ -1,27 +1,19 @@
 -- What the program answers: the lines on the output, and how the run ends.
-use Rattle.std.specs.Prelude.{ℕ, ◌-◌, ◌≡◌, ◌↔◌, Bool, true, false, nat_le, List, [], ◌∷◌, ◌++◌, length, map, Option, Some, None, Result, Ok, Err, String, string_bytes, if◌then◌else◌}
+use Rattle.std.specs.Prelude.{ℕ, ◌≡◌, Bool, true, false, nat_le, List, [], ◌++◌, length, map, Result, Ok, Err, String, string_bytes, if◌then◌else◌}
 use Rattle.criteria.specs.Criteria.{numbers_of}
 use Rattle.derivation_text.specs.Text.{derivation_lines}
 use Rattle.derivations.specs.Derivations.{derivation, replayed}
 use Rattle.derivations.specs.declared.line.Line.{Line}
-use Rattle.design_base.specs.Arrays.{IsOa}
-use Rattle.design_base.specs.Limits.{in_bounds}
-use Rattle.design_base.specs.Meets.{Meets}
-use Rattle.design_base.specs.Squares.{IsMols}
 use Rattle.design_base.specs.declared.limits.TheConstants.{INPUT_MAX}
 use Rattle.design_base.specs.declared.query.Query.{Query}
-use Rattle.design_base.specs.declared.query.Query.TheVariants.{Td}
 use Rattle.design_base.specs.declared.verdict.Verdict.{Verdict}
 use Rattle.design_base.specs.declared.verdict.Verdict.TheVariants.{Yes as YesVerdict, No as NoVerdict, Unknown as UnknownVerdict}
-use Rattle.design_checks.specs.Findings.{finding}
-use Rattle.design_checks.specs.declared.finding.Finding.TheVariants.{Valid}
 use Rattle.design_io.specs.Inputs.{line_at}
 use Rattle.design_lines.specs.Grammar.{parse}
 use Rattle.design_lines.specs.declared.command.Command.{Command}
 use Rattle.design_lines.specs.declared.command.Command.TheVariants.{On}
 use Rattle.design_lines.specs.declared.command.Reason.{Reason}
 use Rattle.design_lines.specs.declared.command.Shape.{Shape}
-use Rattle.design_lines.specs.declared.command.Shape.TheVariants.{Rows as AsRows, Squares as AsSquares}
 use Rattle.design_lines.specs.declared.command.Verb.TheVariants.{Ask, Build, Check, Explain}
 use Rattle.design_reports.specs.Endings.{status_of}
 use Rattle.design_reports.specs.Parts.{part_lines, part_of}
@@ -29,25 +21,15 @@ use Rattle.design_reports.specs.Reports.{Report, found_report, silent, verdict_r
 use Rattle.design_reports.specs.Texts.{because_lines}
 use Rattle.design_reports.specs.declared.ending.Ending.TheVariants.{Refused, NotBuilt, BadInput}
 use Rattle.design_reports.specs.declared.status.Status.TheVariants.{Usage}
+use Rattle.rule_table.specs.Verdicts.{verdict}
 use Rattle.design_cli.specs.BlockText.{BlockText, blocks, bad_line, block_text}
-use Rattle.design_cli.specs.Decided.{decided}
 use Rattle.design_cli.specs.LineFindings.{lines_finding}
-
--- the answer to `ask`: the verdict, where it is final
-abbrev pub ask_report : Query → Option Verdict → Report
-ask_report q (Some told) = verdict_report q told []
-ask_report q None = silent NotBuilt
 
 -- why the verdict is so: for yes its derivation, for no the two numbers of the criterion
 abbrev pub reason_lines : Query → Verdict → List (List ℕ)
 reason_lines q (YesVerdict step) = derivation_lines (derivation q)
 reason_lines q (NoVerdict criterion) = because_lines (numbers_of q)
 reason_lines q UnknownVerdict = []
-
--- the answer to `explain`: the verdict, and why it is so
-abbrev pub explain_report : Query → Option Verdict → Report
-explain_report q (Some told) = verdict_report q told (reason_lines q told)
-explain_report q None = silent NotBuilt
 
 -- a derivation, and the blocks that it gives in the shape that is asked for
 abbrev pub built_lines : Query → Shape → List Line → List (List ℕ) → List (List ℕ)
@@ -59,11 +41,6 @@ design_lines q shape (YesVerdict step) = built_lines q shape (derivation q) (rep
 design_lines q shape (NoVerdict criterion) = []
 design_lines q shape UnknownVerdict = []
 
--- the answer to `build`: the verdict, where it is final, and for yes its design
-abbrev pub build_report : Query → Shape → Option Verdict → Report
-build_report q shape (Some told) = verdict_report q told (design_lines q shape told)
-build_report q shape None = silent NotBuilt
-
 -- the lines of a text checked in the shape that is asked for
 abbrev pub text_report : Query → Shape → BlockText → Report
 text_report q shape (blocks lines) = found_report q (lines_finding q shape lines)
@@ -74,11 +51,11 @@ abbrev pub check_report : Query → Shape → List ℕ → Report
 check_report q shape input =
     if nat_le (length input) INPUT_MAX then text_report q shape (block_text input) else silent (BadInput (line_at input INPUT_MAX))
 
--- the answer to a command that leaves the input unread
+-- the answer to a command that leaves the input unread: the verdict, and for `explain` why it is so, for `build` the design
 abbrev pub unread_report : Command → Report
-unread_report (On Ask q shape) = ask_report q (decided q)
-unread_report (On Explain q shape) = explain_report q (decided q)
-unread_report (On Build q shape) = build_report q shape (decided q)
+unread_report (On Ask q shape) = verdict_report q (verdict q) []
+unread_report (On Explain q shape) = verdict_report q (verdict q) (reason_lines q (verdict q))
+unread_report (On Build q shape) = verdict_report q (verdict q) (design_lines q shape (verdict q))
 unread_report command = silent NotBuilt
 
 -- the answer to a command, where the input is this text
@@ -105,15 +82,3 @@ command_of words = parse (map string_bytes words)
 -- the words are refused
 abbrev pub IsRefused : Report → Type 0
 IsRefused report = status_of report.ending ≡ Usage
-
--- blocks are found valid exactly where they are such a design
-abbrev pub EachValidIsDesign : Type 0
-EachValidIsDesign = (q : Query) (B : List (List ℕ)) → (finding q B ≡ Valid) ↔ Meets q B
-
--- rows are found valid exactly where they are an orthogonal array
-abbrev pub EachValidIsArray : Type 0
-EachValidIsArray = (k n : ℕ) → in_bounds (Td k n) ≡ true → (R : List (List ℕ)) → (lines_finding (Td k n) AsRows R ≡ Valid) ↔ IsOa R k n
-
--- squares are found valid exactly where they are mutually orthogonal Latin squares
-abbrev pub EachValidAreSquares : Type 0
-EachValidAreSquares = (k n : ℕ) → in_bounds (Td k n) ≡ true → (L : List (List ℕ)) → (lines_finding (Td k n) AsSquares L ≡ Valid) ↔ IsMols L n (k - 2)

@@ -1,12 +1,14 @@
 //! The top call.
 ghost use Rattle.std.specs.Prelude.{◌≡◌, ◌≢◌, ◌↔◌, IfNone, IfSome, Ok, false, true};
-ghost use Rattle.design_cli.specs.Decided.{EachNoHasNone, EachYesIsDesigned};
-ghost use Rattle.design_cli.specs.Report.{EachValidAreSquares, EachValidIsArray, EachValidIsDesign, IsRefused, command_of, reads_input, takes_memory, unread_report};
+ghost use Rattle.derivations.specs.Laws.{YesLaw};
+ghost use Rattle.design_cli.specs.Laws.{ValidLaw, ValidRowsLaw, ValidSquaresLaw};
+ghost use Rattle.design_cli.specs.Report.{IsRefused, command_of, reads_input, takes_memory, unread_report};
 ghost use Rattle.design_cli.specs.Runs.{Answers, RunsOn};
 ghost use Rattle.design_io.specs.Faults.{Rose};
 ghost use Rattle.design_lines.specs.Grammar.{IsInBounds};
 ghost use Rattle.design_reports.specs.Answers.{EndsWith, HasFault, HasReadFault, Says};
 ghost use Rattle.design_reports.specs.Endings.{status_of};
+ghost use Rattle.rule_table.specs.Laws.{NoLaw, UnknownLaw};
 
 use crate::asking::{answer_ask, answer_explain};
 use crate::building::answer_build;
@@ -107,7 +109,7 @@ fn answer<S: Source, K: Sink, L: Ledger>(
 
 /// Answers the words of a command line: writes the report on `out`, and at most one line on `err`, and says how that
 /// ended. The input is read only where the words ask for a check. `steps` counts the evaluations that are begun.
-#[tactic(auto, using(crate::proofs::Designed::each_yes_is_designed, crate::proofs::Designed::each_no_has_none, crate::proofs::Designed::each_valid_is_design, crate::proofs::Designed::each_valid_is_array, crate::proofs::Designed::each_valid_are_squares))]
+#[tactic(auto, using(rule_table::proofs::Meanings::none_meets, rule_table::proofs::Meanings::unknown_is_open, crate::proofs::Designed::valid_is_design, crate::proofs::Designed::valid_is_array, crate::proofs::Designed::valid_are_squares))]
 pub fn run<S: Source, K: Sink, E: Sink, L: Ledger>(
     alloc: Global,
     words: &[String],
@@ -120,13 +122,16 @@ pub fn run<S: Source, K: Sink, E: Sink, L: Ledger>(
     // which a part stands after a fault, and the line on the error output.
     ensures report { RunsOn (command_of words.now) (S.left input.old) result (K.held out.old) (K.held out.new) (λ line. Says line (E.held err.old) (E.held err.new) (E.faults err.old) (E.faults err.new)) }
 
-    // The blocks of a yes are such a design, a no of the table of rules means that there is none, and exactly the blocks of
-    // such designs are found valid.
-    ensures design { EachYesIsDesigned }
-    ensures none { EachNoHasNone }
-    ensures valid { EachValidIsDesign }
-    ensures valid_rows { EachValidIsArray }
-    ensures valid_squares { EachValidAreSquares }
+    // The blocks of a yes are such a design, under a no there is no such design, and a question is unknown exactly where no criterion
+    // and no rule applies.
+    ensures design { YesLaw }
+    ensures none { NoLaw }
+    ensures unknown { UnknownLaw }
+
+    // Exactly the blocks, the rows and the squares of such designs are found valid.
+    ensures valid { ValidLaw }
+    ensures valid_rows { ValidRowsLaw }
+    ensures valid_squares { ValidSquaresLaw }
 
     // A fault comes only where the count of its object rose, and a read fault only where the words read the input.
     ensures write_fault { result ≡ Status.WriteFault → Rose (K.faults out.old) (K.faults out.new) }

@@ -1,17 +1,14 @@
 //! The answers to `ask` and `explain`: the verdict, and why it is so.
-ghost use Rattle.std.specs.Prelude.{◌≡◌, ◌≢◌, ◌↔◌, [], ◌++◌, Some, true};
+ghost use Rattle.std.specs.Prelude.{◌≡◌, ◌≢◌, [], ◌++◌, Some, true};
 ghost use Rattle.std.specs.List.{flat_map};
 ghost use Rattle.criteria.specs.Criteria.{criterion_of, numbers_of};
 ghost use Rattle.derivation_text.specs.Text.{derivation_lines};
-ghost use Rattle.derivations.specs.Derivations.{derivation as derivation_of};
 ghost use Rattle.design_base.specs.Limits.{in_bounds};
-ghost use Rattle.design_cli.specs.Decided.{decided};
 ghost use Rattle.derivations.specs.Spelled.{ArePrintable};
-ghost use Rattle.design_cli.specs.Report.{IsRefused, ask_report, explain_report};
+ghost use Rattle.design_cli.specs.Report.{reason_lines};
 ghost use Rattle.design_io.specs.Faults.{HasCause};
 ghost use Rattle.design_io.specs.Pieces.{AppendsWhole};
 ghost use Rattle.design_reports.specs.Answers.{EndsWith, HasFault, IsAnswer};
-ghost use Rattle.design_reports.specs.Endings.{status_of};
 ghost use Rattle.design_reports.specs.Reports.{verdict_report};
 ghost use Rattle.design_reports.specs.Texts.{because_lines, verdict_line as verdict_text};
 ghost use Rattle.rule_table.specs.Verdicts.{verdict as verdict_of};
@@ -22,7 +19,7 @@ use derivation_text::print_v1;
 use derivations::Derivation;
 use design_base::{Criterion, Query, Step, Verdict};
 use design_io::{Failed, Sink};
-use design_reports::{Ending, Status, write_because, write_verdict};
+use design_reports::{Ending, write_because, write_verdict};
 use rule_table::Asker;
 use std::sync::ledger::Ledger;
 
@@ -40,23 +37,20 @@ pub fn answer_verdict<K: Sink>(query: &Query, verdict: &Verdict, out: &mut K) ->
     }
 }
 
-/// Answers `ask` on a question in bounds: the verdict, where it is final. It takes no memory.
+/// Answers `ask` on a question in bounds: its verdict. It takes no memory.
 pub fn answer_ask<K: Sink, A: Asker + Drop, L: Ledger>(
     query: &Query,
     oracle: &mut Oracle<A, L>,
     out: &mut K,
 ) -> Ending
     requires { in_bounds query.now ≡ true }
-    ensures ends { EndsWith (ask_report query.now (decided query.now)) result (K.held out.old) (K.held out.new) }
+    ensures ends { EndsWith (verdict_report query.now (verdict_of query.now) []) result (K.held out.old) (K.held out.new) }
     ensures cause { HasFault result (K.faults out.old) (K.faults out.new) }
+    ensures answered { IsAnswer result }
     ensures no_read { result ≢ Ending.ReadFault }
     ensures memory { result ≢ Ending.NoMemory }
-    ensures usage { (status_of result ≡ Status.Usage) ↔ IsRefused (ask_report query.now (decided query.now)) }
 {
-    let Some(verdict) = oracle.decided(query) else {
-        return Ending::NotBuilt;
-    };
-    answer_verdict(query, &verdict, out)
+    answer_verdict(query, &oracle.verdict(query), out)
 }
 
 // Writes the verdict yes and its derivation.
@@ -77,9 +71,8 @@ fn write_derivation<K: Sink>(
 
 // Explains a question that the table of rules answers by yes, by its derivation.
 fn explain_yes<K: Sink>(query: &Query, step: &Step, derivation: &Derivation, out: &mut K) -> Ending
-    requires derivation { derivation.now ≡ derivation_of query.now }
-    requires few { ArePrintable derivation.now }
-    ensures ends { EndsWith (explain_report query.now (Some (Verdict.Yes step.now))) result (K.held out.old) (K.held out.new) }
+    requires { ArePrintable derivation.now }
+    ensures ends { EndsWith (verdict_report query.now (Verdict.Yes step.now) (derivation_lines derivation.now)) result (K.held out.old) (K.held out.new) }
     ensures cause { HasFault result (K.faults out.old) (K.faults out.new) }
     ensures answered { IsAnswer result }
     ensures no_read { result ≢ Ending.ReadFault }
@@ -108,7 +101,7 @@ fn write_reason<K: Sink>(out: &mut K, query: &Query, criterion: Criterion) -> Re
 fn explain_no<K: Sink>(query: &Query, criterion: Criterion, out: &mut K) -> Ending
     requires bounds { in_bounds query.now ≡ true }
     requires criterion { criterion_of query.now ≡ Some criterion }
-    ensures ends { EndsWith (explain_report query.now (Some (Verdict.No criterion))) result (K.held out.old) (K.held out.new) }
+    ensures ends { EndsWith (verdict_report query.now (Verdict.No criterion) (because_lines (numbers_of query.now))) result (K.held out.old) (K.held out.new) }
     ensures cause { HasFault result (K.faults out.old) (K.faults out.new) }
     ensures answered { IsAnswer result }
     ensures no_read { result ≢ Ending.ReadFault }
@@ -120,22 +113,20 @@ fn explain_no<K: Sink>(query: &Query, criterion: Criterion, out: &mut K) -> Endi
     }
 }
 
-// Says a verdict of the table of rules, and why it is so.
-#[tactic(auto, using(crate::proofs::Reasons::criterion_of_no))]
-fn explain_verdict<K: Sink, A: Asker + Drop, L: Ledger>(
+/// Answers `explain` on a question in bounds: its verdict, and its derivation or the two numbers of its criterion.
+#[tactic(auto, using(rule_table::proofs::Meanings::criterion_of_no))]
+pub fn answer_explain<K: Sink, A: Asker + Drop, L: Ledger>(
     query: &Query,
-    verdict: Verdict,
     oracle: &mut Oracle<A, L>,
     out: &mut K,
 ) -> Ending
-    requires bounds { in_bounds query.now ≡ true }
-    requires verdict { verdict ≡ verdict_of query.now }
-    ensures ends { EndsWith (explain_report query.now (Some verdict)) result (K.held out.old) (K.held out.new) }
+    requires { in_bounds query.now ≡ true }
+    ensures ends { EndsWith (verdict_report query.now (verdict_of query.now) (reason_lines query.now (verdict_of query.now))) result (K.held out.old) (K.held out.new) }
     ensures cause { HasFault result (K.faults out.old) (K.faults out.new) }
     ensures answered { IsAnswer result }
     ensures no_read { result ≢ Ending.ReadFault }
 {
-    match verdict {
+    match oracle.verdict(query) {
         Verdict::Yes(step) => {
             let Ok(derivation) = oracle.derivation(query, &step) else {
                 return Ending::NoMemory;
@@ -143,25 +134,6 @@ fn explain_verdict<K: Sink, A: Asker + Drop, L: Ledger>(
             explain_yes(query, &step, &derivation, out)
         }
         Verdict::No(criterion) => explain_no(query, criterion, out),
-        Verdict::Unknown => answer_verdict(query, &verdict, out),
+        Verdict::Unknown => answer_verdict(query, &Verdict::Unknown, out),
     }
-}
-
-/// Answers `explain` on a question in bounds: the verdict, where it is final, and its derivation or the two numbers of its
-/// criterion.
-pub fn answer_explain<K: Sink, A: Asker + Drop, L: Ledger>(
-    query: &Query,
-    oracle: &mut Oracle<A, L>,
-    out: &mut K,
-) -> Ending
-    requires { in_bounds query.now ≡ true }
-    ensures ends { EndsWith (explain_report query.now (decided query.now)) result (K.held out.old) (K.held out.new) }
-    ensures cause { HasFault result (K.faults out.old) (K.faults out.new) }
-    ensures no_read { result ≢ Ending.ReadFault }
-    ensures usage { (status_of result ≡ Status.Usage) ↔ IsRefused (explain_report query.now (decided query.now)) }
-{
-    let Some(verdict) = oracle.decided(query) else {
-        return Ending::NotBuilt;
-    };
-    explain_verdict(query, verdict, oracle, out)
 }

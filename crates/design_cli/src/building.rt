@@ -1,16 +1,14 @@
 //! The answer to `build`: the verdict, and for yes its derivation and its blocks.
-ghost use Rattle.std.specs.Prelude.{◌≡◌, ◌≢◌, ◌↔◌, ◌++◌, Some, true};
+ghost use Rattle.std.specs.Prelude.{◌≡◌, ◌≢◌, ◌++◌, true};
 ghost use Rattle.std.specs.List.{flat_map};
 ghost use Rattle.derivation_text.specs.Text.{derivation_lines};
 ghost use Rattle.design_base.specs.Limits.{in_bounds};
 ghost use Rattle.design_base.specs.Meets.{Meets};
-ghost use Rattle.design_cli.specs.Decided.{decided};
 ghost use Rattle.derivations.specs.Spelled.{ArePrintable};
-ghost use Rattle.design_cli.specs.Report.{IsRefused, build_report, built_lines};
+ghost use Rattle.design_cli.specs.Report.{built_lines, design_lines};
 ghost use Rattle.design_io.specs.Faults.{HasCause};
 ghost use Rattle.design_io.specs.Pieces.{AppendsWhole};
 ghost use Rattle.design_reports.specs.Answers.{EndsWith, HasFault, IsAnswer};
-ghost use Rattle.design_reports.specs.Endings.{status_of};
 ghost use Rattle.design_reports.specs.Parts.{IsPrintable, part_lines};
 ghost use Rattle.design_reports.specs.Reports.{verdict_report};
 ghost use Rattle.design_reports.specs.Texts.{verdict_line as verdict_text};
@@ -23,7 +21,7 @@ use derivations::Derivation;
 use design_base::{Query, Step, Verdict};
 use design_io::{Failed, Sink};
 use design_lines::Shape;
-use design_reports::{Ending, Part, Status, part_of_blocks, write_part, write_verdict};
+use design_reports::{Ending, Part, part_of_blocks, write_part, write_verdict};
 use rule_table::Asker;
 use std::alloc::Global;
 use std::sync::ledger::Ledger;
@@ -74,31 +72,7 @@ fn answer_design<K: Sink>(
     }
 }
 
-// Builds a question by its verdict by the table of rules.
-fn build_decided<K: Sink, A: Asker + Drop, L: Ledger>(
-    query: &Query,
-    shape: Shape,
-    verdict: Verdict,
-    oracle: &mut Oracle<A, L>,
-    out: &mut K,
-) -> Ending
-    requires bounds { in_bounds query.now ≡ true }
-    requires verdict { verdict ≡ verdict_of query.now }
-    ensures ends { EndsWith (build_report query.now shape (Some verdict)) result (K.held out.old) (K.held out.new) }
-    ensures cause { HasFault result (K.faults out.old) (K.faults out.new) }
-    ensures answered { IsAnswer result }
-    ensures no_read { result ≢ Ending.ReadFault }
-{
-    let Verdict::Yes(step) = verdict else {
-        return answer_verdict(query, &verdict, out);
-    };
-    let Ok(design) = oracle.design(query, &step) else {
-        return Ending::NoMemory;
-    };
-    answer_design(oracle.alloc(), query, shape, &step, design, out)
-}
-
-/// Answers `build` on a question in bounds: the verdict, where it is final, and for yes its design.
+/// Answers `build` on a question in bounds: its verdict, and for yes its design.
 pub fn answer_build<K: Sink, A: Asker + Drop, L: Ledger>(
     query: &Query,
     shape: Shape,
@@ -106,13 +80,17 @@ pub fn answer_build<K: Sink, A: Asker + Drop, L: Ledger>(
     out: &mut K,
 ) -> Ending
     requires { in_bounds query.now ≡ true }
-    ensures ends { EndsWith (build_report query.now shape (decided query.now)) result (K.held out.old) (K.held out.new) }
+    ensures ends { EndsWith (verdict_report query.now (verdict_of query.now) (design_lines query.now shape (verdict_of query.now))) result (K.held out.old) (K.held out.new) }
     ensures cause { HasFault result (K.faults out.old) (K.faults out.new) }
+    ensures answered { IsAnswer result }
     ensures no_read { result ≢ Ending.ReadFault }
-    ensures usage { (status_of result ≡ Status.Usage) ↔ IsRefused (build_report query.now shape (decided query.now)) }
 {
-    let Some(verdict) = oracle.decided(query) else {
-        return Ending::NotBuilt;
+    let verdict = oracle.verdict(query);
+    let Verdict::Yes(step) = verdict else {
+        return answer_verdict(query, &verdict, out);
     };
-    build_decided(query, shape, verdict, oracle, out)
+    let Ok(design) = oracle.design(query, &step) else {
+        return Ending::NoMemory;
+    };
+    answer_design(oracle.alloc(), query, shape, &step, design, out)
 }

@@ -1,15 +1,14 @@
 //! What the answers to questions are asked of.
-ghost use Rattle.std.specs.Prelude.{◌≡◌, IfOk, IfSome, true};
+ghost use Rattle.std.specs.Prelude.{◌≡◌, IfOk, true};
 ghost use Rattle.derivations.specs.Derivations.{IsSound, derivation, replayed};
 ghost use Rattle.design_base.specs.Limits.{in_bounds};
 ghost use Rattle.design_base.specs.Meets.{Meets};
 ghost use Rattle.design_base.specs.declared.verdict.Verdict.TheVariants.{Yes};
-ghost use Rattle.design_cli.specs.Decided.{decided, is_final as is_final_of, stays as yes_stays};
 ghost use Rattle.derivations.specs.Spelled.{ArePrintable};
 ghost use Rattle.rule_table.specs.Verdicts.{verdict as verdict_of};
 
 use derivations::{Derivation, ReplayEnd, derive, replay};
-use design_base::{Memory, Query, Rule, Step, Verdict};
+use design_base::{Memory, Query, Step, Verdict};
 use incidence::Rows;
 use rule_table::{Asker, Steps, Tools};
 use std::alloc::Global;
@@ -32,25 +31,6 @@ pub struct Oracle<'a, A: Asker + Drop, L: Ledger> {
     steps: &'a mut Steps<L>,
 }
 
-// Whether a yes on a block design stays.
-fn stays(v: u16, k: u16, l: u16, step: &Step) -> bool
-    ensures { result ≡ yes_stays v k l step.now }
-{
-    step.rule.number() <= Rule::Projective.number() || (k == 3 && !(v == 7 && l == 2))
-}
-
-// Whether a verdict stays whatever rules are still to come.
-fn is_final(query: &Query, verdict: &Verdict) -> bool
-    ensures { result ≡ is_final_of query.now verdict.now }
-{
-    match (verdict, query) {
-        (Verdict::No(_), _) => true,
-        (_, Query::Td { .. }) => true,
-        (Verdict::Yes(step), Query::Bibd { v, k, l }) => stays(*v, *k, *l, step),
-        _ => false,
-    }
-}
-
 impl<'a, A: Asker + Drop, L: Ledger> Oracle<'a, A, L> {
     /// What answers ask by this asker. Memory is taken from `alloc`, and none before it is needed.
     pub fn new(alloc: Global, asker: A, steps: &'a mut Steps<L>) -> Oracle<'a, A, L> {
@@ -67,18 +47,12 @@ impl<'a, A: Asker + Drop, L: Ledger> Oracle<'a, A, L> {
         self.alloc
     }
 
-    /// The verdict on a question in bounds, where it is final.
-    pub fn decided(&mut self, query: &Query) -> Option<Verdict>
+    /// The verdict on a question in bounds.
+    pub fn verdict(&mut self, query: &Query) -> Verdict
         requires { in_bounds query.now ≡ true }
-        ensures decided { result ≡ decided query.now }
-        ensures verdict { IfSome result (λ told. told ≡ verdict_of query.now) }
+        ensures { result ≡ verdict_of query.now }
     {
-        let verdict = self.asker.ask(query, &self.tools, self.steps);
-        if is_final(query, &verdict) {
-            Some(verdict)
-        } else {
-            None
-        }
+        self.asker.ask(query, &self.tools, self.steps)
     }
 
     /// The derivation of a question in bounds whose verdict is yes by this step. The answer is `Memory` only for want of memory.

@@ -2,6 +2,7 @@ pub mod Chosen
 pub mod Each
 pub mod Firsts
 pub mod Followed
+pub mod Meanings
 pub mod Members
 pub mod Passing
 pub mod Proved

@@ -19,7 +19,7 @@ use Rattle.criteria.specs.Criteria.{reasons, reason_of, criterion_of}
 use Rattle.criteria.specs.declared.table.Comparison.{Comparison}
 use Rattle.rule_terms.specs.BibdTerms.{bibd_terms}
 use Rattle.rule_table.specs.Candidates.{is_candidate, premises}
-use Rattle.rule_table.specs.Decided.{HasSettledSize, SettledLaw}
+use Rattle.rule_table.specs.Laws.{HasSettledSize, SettledLaw}
 use Rattle.rule_terms.specs.Table.{terms}
 use Rattle.rule_terms.specs.Terms.{allows, premises_at}
 use Rattle.rule_table.specs.Verdicts.{judged, verdict, first_step, is_yes, yes_or_unknown}

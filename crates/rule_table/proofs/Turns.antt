@@ -1,6 +1,6 @@
 -- The turns of an evaluation: what it asks next, what it answers at the end, and where a verdict brings it.
 use Rattle.std.proofs.Common.{◌≡◌, ℕ, zero, suc, ◌+◌, ◌-◌, ◌<◌, ◌≤◌, Bool, true, false, List, [], ◌∷◌, ◌++◌, arith, refl, length, ap, sym, ◌∙◌, subst, take, drop, append_assoc, length-append, length-drop, get_or}
-use Rattle.std.specs.Prelude.{Option, Some, None, IsSome}
+use Rattle.std.specs.Prelude.{Option, Some, None}
 use Rattle.std.specs.List.{AllByRecursion}
 use Rattle.std.proofs.lemmas.List.{append_cancel_left, append-nil, take_at, drop_more, drop_all, drop-drop}
 use Rattle.counting.specs.Search.{first_in, each_passes}
@@ -10,35 +10,21 @@ use Rattle.design_base.specs.declared.verdict.Criterion.{Criterion}
 use Rattle.design_base.specs.declared.verdict.Verdict.{Verdict}
 use Rattle.design_base.specs.declared.verdict.Verdict.TheVariants.{Yes, No, Unknown}
 use Rattle.design_base.specs.Limits.{in_bounds}
-use Rattle.design_base.specs.Meets.{Meets}
 use Rattle.design_base.specs.Rules.{rules}
 use Rattle.design_base.specs.Steps.{Step}
 use Rattle.criteria.specs.Criteria.{criterion_of}
-use Rattle.criteria.proofs.Laws.{criterion_law}
 use Rattle.rule_table.specs.Asked.{asked, asked_by, asked_through}
 use Rattle.rule_table.specs.Candidates.{candidates, premises, is_candidate}
 use Rattle.rule_table.specs.Progress.{Progress, AsksNext, IsPlace, IsSound, TellsNext, answered_next, are_yes, asked_from, asked_still, first_proved, found_from, progress}
 use Rattle.rule_terms.specs.Rank.{rank}
-use Rattle.rule_table.specs.Verdicts.{first_step, is_yes, judged, verdict, yes_or_unknown}
+use Rattle.rule_table.specs.Verdicts.{first_step, is_yes, verdict, yes_or_unknown}
 use Rattle.rule_table.specs.Walks.{head, steps_after, steps_from, steps_of}
 use Rattle.rule_table.proofs.Followed.{from_first, from_next}
 use Rattle.rule_table.proofs.Each.{each-both}
+use Rattle.rule_table.proofs.Meanings.{judged_by, verdict_by}
 use Rattle.rule_table.proofs.Passing.{IsBelow, candidates_are, candidates_fall, premises_few}
-use Rattle.rule_table.proofs.Unfolds.{verdict_unfolds}
 
--- the verdict and the questions asked for, by the criterion
-
-abbrev judged_by : Query → Option Criterion → Verdict
-judged_by q (Some c) = No c
-judged_by q None = yes_or_unknown (first_step verdict q)
-
-verdict_by : (q : Query) → in_bounds q ≡ true → verdict q ≡ judged_by q (criterion_of q)
-unfolding judged
-verdict_by q b = verdict_unfolds q b ∙ by (criterion_of q)
-  where
-    by : (o : Option Criterion) → ◌≡◌ {A = Verdict} (elim o [ Some c ↦ No c | None ↦ yes_or_unknown (first_step verdict q) ]) (judged_by q o)
-    by (Some c) = refl
-    by None = refl
+-- the questions asked for, by the criterion
 
 abbrev asked_as : Query → Option Criterion → List Query
 asked_as q (Some c) = []
@@ -51,18 +37,6 @@ asked-as q = by (criterion_of q)
     by : (o : Option Criterion) → ◌≡◌ {A = List Query} (elim o [ Some c ↦ [] | None ↦ asked_by q (candidates q) ]) (asked_as q o)
     by (Some c) = refl
     by None = refl
-
--- where the verdict is No, there is no such design
-pub none_meets : (q : Query) (c : Criterion) (v : Verdict) → in_bounds q ≡ true → v ≡ verdict q → v ≡ No c → (B : List (List ℕ)) → Meets q B → ⊥
-none_meets q c v b e k B m = by (criterion_of q) refl (sym (verdict_by q b) ∙ sym e ∙ k)
-  where
-    of_step : (o : Option Step) → yes_or_unknown o ≡ No c → ⊥
-    of_step (Some s) d = cc
-    of_step None d = cc
-
-    by : (o : Option Criterion) → o ≡ criterion_of q → judged_by q o ≡ No c → ⊥
-    by (Some r) f d = criterion_law q b (subst (λ (o : Option Criterion). IsSome o) f refl) B m
-    by None f d = of_step (first_step verdict q) d
 
 -- what is behind a place in a list
 

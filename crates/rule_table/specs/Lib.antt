@@ -1,6 +1,6 @@
 pub mod Candidates
 pub mod Verdicts
-pub mod Decided
+pub mod Laws
 pub mod Asked
 pub mod Work
 pub mod Walks

@@ -1,4 +1,5 @@
 use Rattle.design_cli.specs.Report.{command_of}
+use Rattle.design_cli.proofs.Designed.{yes_is_designed}
 use Rattle.design_cli.proofs.Endings.{run_ends}
 use Rattle.design_reports.specs.Answers.{Says}
 use Rattle.design_cli.proofs.answering.run.Goals as goal
@@ -8,3 +9,6 @@ returns-clause-report g c =
     rw c.status.ensures (run_ends (command_of c.args.words.now) (g.S.Source.left c.args.input.now) c.answer-ending.result (g.K.Sink.held c.args.out.now) (g.K.Sink.held c.answer-ending.new.out)
     (λ line. Says line (g.E.Sink.held c.args.err.now) (g.E.Sink.held c.say.new.err) (g.E.Sink.faults c.args.err.now) (g.E.Sink.faults c.say.new.err)) c.answer-ending.ensures.ends
     (rw (c.bytes.ensures.bytes, c.message.ensures) at c.say.ensures))
+
+pub returns-clause-design : goal.returns-clause-design
+returns-clause-design g c = yes_is_designed

@@ -1,8 +1,8 @@
-use Rattle.std.proofs.Common.{◌≡◌, ◌<◌, ◌-◌, ap, ◌∙◌, arith}
+use Rattle.std.proofs.Common.{◌≡◌, ◌<◌, ◌-◌, ap, sym, ◌∙◌, arith}
 use Rattle.rule_table.specs.Asked.{asked}
 use Rattle.rule_table.specs.Progress.{Progress}
 use Rattle.rule_table.specs.Verdicts.{verdict}
-use Rattle.rule_table.proofs.Turns.{none_meets}
+use Rattle.rule_table.proofs.Meanings.{none_meets}
 use Rattle.rule_table.proofs.Works.{work_done, work_more}
 use Rattle.rule_table.proofs.verdicts.+evaluate.Goals as goal
 
@@ -24,4 +24,4 @@ returns-in-Done-clause-steps g t c =
     omega (arith, c.turns.invariant.1, done)
 
 pub returns-in-Done-clause-none : goal.returns-in-Done-clause-none
-returns-in-Done-clause-none g t c r k = none_meets _ r _ c.requires.bounds (c.in-Done.ensures.verdict ∙ ap verdict c.turns.invariant.0) k
+returns-in-Done-clause-none g t c r k = none_meets _ r c.requires.bounds (sym (c.in-Done.ensures.verdict ∙ ap verdict c.turns.invariant.0) ∙ k)
