@@ -8,7 +8,6 @@ pub mod Planes
 pub mod Unitals
 pub mod ListedUnitals
 pub mod OnLines
-pub mod Linear
 pub mod CurveDesigns
 pub mod Samples
 

@@ -72,3 +72,6 @@ pub fn arc(alloc: Global, r: u16, s: u16) -> Result<Rows, Memory>
     let rows = secants(alloc, &field, &points)?;
     Ok(rows)
 }
+
+#[cfg(test)]
+mod tests;
