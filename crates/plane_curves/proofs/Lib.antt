@@ -10,7 +10,6 @@ pub mod ListedUnitals
 pub mod OnLines
 pub mod CurveDesigns
 pub mod Samples
-
 pub mod SecantLines
 pub mod CurveLists
 pub mod SecantSteps

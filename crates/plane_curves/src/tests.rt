@@ -15,13 +15,7 @@ fn assert_rows(rt: &impl Abort, rows: &Rows, count: usize, middle: &[u16], last:
 #[test]
 fn unitals(rt: HostRuntime) -> Result<(), Fail> {
     let alloc = rt.alloc();
-    assert_rows(
-        &rt,
-        &unital(alloc, 2)?,
-        12,
-        &[1, 6, 7],
-        &[4, 6, 8],
-    );
+    assert_rows(&rt, &unital(alloc, 2)?, 12, &[1, 6, 7], &[4, 6, 8]);
     assert_rows(
         &rt,
         &unital(alloc, 3)?,
@@ -49,41 +43,11 @@ fn unitals(rt: HostRuntime) -> Result<(), Fail> {
 #[test]
 fn arcs(rt: HostRuntime) -> Result<(), Fail> {
     let alloc = rt.alloc();
-    assert_rows(
-        &rt,
-        &arc(alloc, 1, 2)?,
-        15,
-        &[1, 4],
-        &[4, 5],
-    );
-    assert_rows(
-        &rt,
-        &arc(alloc, 1, 3)?,
-        45,
-        &[2, 8],
-        &[8, 9],
-    );
-    assert_rows(
-        &rt,
-        &arc(alloc, 1, 4)?,
-        153,
-        &[5, 7],
-        &[16, 17],
-    );
-    assert_rows(
-        &rt,
-        &arc(alloc, 1, 5)?,
-        561,
-        &[9, 29],
-        &[32, 33],
-    );
-    assert_rows(
-        &rt,
-        &arc(alloc, 1, 6)?,
-        2145,
-        &[19, 28],
-        &[64, 65],
-    );
+    assert_rows(&rt, &arc(alloc, 1, 2)?, 15, &[1, 4], &[4, 5]);
+    assert_rows(&rt, &arc(alloc, 1, 3)?, 45, &[2, 8], &[8, 9]);
+    assert_rows(&rt, &arc(alloc, 1, 4)?, 153, &[5, 7], &[16, 17]);
+    assert_rows(&rt, &arc(alloc, 1, 5)?, 561, &[9, 29], &[32, 33]);
+    assert_rows(&rt, &arc(alloc, 1, 6)?, 2145, &[19, 28], &[64, 65]);
     assert_rows(
         &rt,
         &arc(alloc, 2, 3)?,
