@@ -8,10 +8,8 @@ pub mod Planes
 pub mod Unitals
 pub mod ListedUnitals
 pub mod OnLines
-pub mod Linear
 pub mod CurveDesigns
 pub mod Samples
-
 pub mod SecantLines
 pub mod CurveLists
 pub mod SecantSteps

@@ -208,12 +208,16 @@ module _ (q : ℕ) (add mul : ℕ → ℕ → ℕ) (field : IsField q add mul) w
         let below = entries_below q add mul field z in
         let over = entries_below q add mul field y in
         let t = mix_from X.a X.b X.c Y.a Y.b Y.c over.a over.b over.c (independent q add mul field x y hx hy ne) Z.a Z.b Z.c below.a below.b below.c (eqb-true _ _ h) in
-        plane_holds q add mul field 3 x y z (t.0, t.1, record {
-          first = t.2.first;
-          second = t.2.second;
-          made = entries_once q add mul field (combination add mul q 3 t.0 x t.1 y) z (combination_below q add mul r 3 t.0 x t.1 y) l
-              (entries-mix q add mul field t.0 x t.1 y ∙ same_entries _ Z.a _ Z.b _ Z.c t.2.one t.2.two t.2.three);
-        })
+        plane_holds q add mul field 3 x y z (
+          t.0,
+          t.1,
+          record {
+            first = t.2.first;
+            second = t.2.second;
+            made = entries_once q add mul field (combination add mul q 3 t.0 x t.1 y) z (combination_below q add mul r 3 t.0 x t.1 y) l
+                (entries-mix q add mul field t.0 x t.1 y ∙ same_entries _ Z.a _ Z.b _ Z.c t.2.one t.2.two t.2.three);
+          },
+        )
 
     from_plane : (z : ℕ) → holds z (subspace add mul q 3 x y) ≡ true → is_on_line add mul X Y (entries q z) ≡ true
     unfolding is_on_line dot half_cross half mixed combination

@@ -16,10 +16,9 @@ use curves::{arc_points, power_points};
 use design_base::Memory;
 use field_tables::open_field;
 use incidence::Rows;
+pub use laws::curve_laws;
 use secants::secants;
 use std::alloc::Global;
-
-pub use laws::curve_laws;
 
 /// The Hermitian unital of order `q`, in canonical form: q ^ 3 + 1 points, and q + 1 points in each block. Its blocks are the lines
 /// of the plane over the field of q ^ 2 elements that hold more than one point of the Hermitian curve, which is where the sum of the
@@ -72,3 +71,6 @@ pub fn arc(alloc: Global, r: u16, s: u16) -> Result<Rows, Memory>
     let rows = secants(alloc, &field, &points)?;
     Ok(rows)
 }
+
+#[cfg(test)]
+mod tests;
