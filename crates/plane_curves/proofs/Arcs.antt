@@ -59,6 +59,15 @@ pub and_same : (p b c : Bool) → (p ≡ true → b ≡ c) → (p && b) ≡ (p &
 and_same true b c h = h refl
 and_same _ b c h = refl
 
+-- a vector whose first entry is 1 is a point, and so are those of an arc
+pub lead_first : (q z : ℕ) → z % q ≡ 1 → lead q 3 z ≡ 1
+unfolding lead
+lead_first q z e = ap (λ t. cond (t == 0) (first_nonzero (digits q 2 (z / q))) t) e
+
+pub on_arc_first : (add mul : ℕ → ℕ → ℕ) (q c M z : ℕ) → is_on_arc add mul q c M z ≡ true → z % q ≡ 1
+unfolding is_on_arc
+on_arc_first add mul q c M z h = eqb-true (z % q) 1 (and_parts (z % q == 1) (nat_lt (quadratic add mul c (z / q % q) (z / q / q % q)) M) h).0
+
 module _ (q : ℕ) (add mul : ℕ → ℕ → ℕ) (field : IsField q add mul) where
   abbrev r : IsCommutativeRing q add mul
   r = field.ring
@@ -156,16 +165,14 @@ module _ (q : ℕ) (add mul : ℕ → ℕ → ℕ) (field : IsField q add mul) w
     at i = get_or P i 0
 
     first_one : (z : ℕ) → curve z ≡ true → z % q ≡ 1
-    unfolding is_on_arc
-    first_one z h = eqb-true (z % q) 1 (and_parts (z % q == 1) (nat_lt (quadratic add mul c (z / q % q) (z / q / q % q)) M) h).0
+    first_one = on_arc_first add mul q c M
 
     value : (z : ℕ) → curve z ≡ true → quadratic add mul c (z / q % q) (z / q / q % q) < M
     unfolding is_on_arc
     value z h = ltb-true _ M (and_parts (z % q == 1) (nat_lt (quadratic add mul c (z / q % q) (z / q / q % q)) M) h).1
 
     lead_one : (z : ℕ) → curve z ≡ true → lead q 3 z ≡ 1
-    unfolding lead
-    lead_one z h = ap (λ t. cond (t == 0) (first_nonzero (digits q 2 (z / q))) t) (first_one z h)
+    lead_one z h = lead_first q z (first_one z h)
 
     module _ (x y : ℕ) (lx : x < q ^ 3) (ly : y < q ^ 3) (ne : x ≢ y) (hx : curve x ≡ true) (hy : curve y ≡ true) where
       w : (d : ℕ) × (d < q ^ 3) × (sum x d ≡ y)
@@ -198,7 +205,7 @@ module _ (q : ℕ) (add mul : ℕ → ℕ → ℕ) (field : IsField q add mul) w
           (line_below q (q ^ 3) add mul sum scale (vectors q add mul field 3) x w.0))
           ∙ on_line_count
 
-    sections : (i j : ℕ) → i < j → j < length P → curve (at i) ≡ true → curve (at j) ≡ true → sum_below (length P) (λ u. one (curve (at u) && holds (at u) (plane_of (at i) (at j)))) ≡ M
+    pub sections : (i j : ℕ) → i < j → j < length P → curve (at i) ≡ true → curve (at j) ≡ true → sum_below (length P) (λ u. one (curve (at u) && holds (at u) (plane_of (at i) (at j)))) ≡ M
     sections i j l m hi hj =
         over_vectors q 3 (λ z. curve z && holds z (plane_of (at i) (at j))) (λ z e. lead_one z (and_parts _ _ e).0)
         ∙ section (at i) (at j) (point_at q add mul field 3 i (omega arith)).small (point_at q add mul field 3 j m).small

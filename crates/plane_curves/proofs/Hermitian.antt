@@ -7,27 +7,18 @@ use Rattle.counting.specs.Sums.{one, sum_below}
 use Rattle.design_base.specs.Rings.{IsCommutativeRing, IsField}
 use Rattle.field_tables.proofs.AnyField.{add_cancel, distribute_right, mul-zero, mul_cancel, no_zero_divisors, products_left, sums_left}
 use Rattle.counting.proofs.Totals.{sum_below-moved}
-
--- the three entries of a vector
-pub record Entries : Type 0 where
-  pub a : ℕ
-  pub b : ℕ
-  pub c : ℕ
+use Rattle.plane_curves.specs.Secants.{IsOver}
+use Rattle.plane_curves.specs.declared.vectors.Vector.{Vector}
 
 -- m * x + n * y
-unfoldable pub mixed : (ℕ → ℕ → ℕ) → (ℕ → ℕ → ℕ) → ℕ → Entries → ℕ → Entries → Entries
+unfoldable pub mixed : (ℕ → ℕ → ℕ) → (ℕ → ℕ → ℕ) → ℕ → Vector → ℕ → Vector → Vector
 mixed add mul m x n y = record { a = add (mul m x.a) (mul n y.a); b = add (mul m x.b) (mul n y.b); c = add (mul m x.c) (mul n y.c) }
 
-unfoldable pub hermitian : (ℕ → ℕ → ℕ) → (ℕ → ℕ → ℕ) → (ℕ → ℕ) → Entries → Entries → ℕ
+unfoldable pub hermitian : (ℕ → ℕ → ℕ) → (ℕ → ℕ → ℕ) → (ℕ → ℕ) → Vector → Vector → ℕ
 hermitian add mul conj x y = add (mul x.a (conj y.a)) (add (mul x.b (conj y.b)) (mul x.c (conj y.c)))
 
-pub record AreBelow (q : ℕ) (x : Entries) : Type 0 where
-  pub a : x.a < q
-  pub b : x.b < q
-  pub c : x.c < q
-
 -- a mix that is 0 has the weights 0 and 0
-abbrev pub IsIndependent : ℕ → (ℕ → ℕ → ℕ) → (ℕ → ℕ → ℕ) → Entries → Entries → Type 0
+abbrev pub IsIndependent : ℕ → (ℕ → ℕ → ℕ) → (ℕ → ℕ → ℕ) → Vector → Vector → Type 0
 IsIndependent q add mul x y = (m n : ℕ) → m < q → n < q → (mixed add mul m x n y).a ≡ 0 → (mixed add mul m x n y).b ≡ 0 → (mixed add mul m x n y).c ≡ 0 → (m ≡ 0) × (n ≡ 0)
 
 pub record IsConjugation (q : ℕ) (add mul : ℕ → ℕ → ℕ) (conj : ℕ → ℕ) : Type 0 where
@@ -74,28 +65,28 @@ module _ (q : ℕ) (add mul : ℕ → ℕ → ℕ) (field : IsField q add mul) (
   plus_zero : add 0 0 ≡ 0
   plus_zero = r.zero_neutral 0 positive
 
-  abbrev Below : Entries → Type 0
-  Below x = AreBelow q x
+  abbrev Below : Vector → Type 0
+  Below x = IsOver q x
 
-  abbrev mix : ℕ → Entries → ℕ → Entries → Entries
+  abbrev mix : ℕ → Vector → ℕ → Vector → Vector
   mix = mixed add mul
 
-  mix_below : (m : ℕ) (x : Entries) (n : ℕ) (y : Entries) → Below (mix m x n y)
+  mix_below : (m : ℕ) (x : Vector) (n : ℕ) (y : Vector) → Below (mix m x n y)
   unfolding mixed
   mix_below m x n y = record { a = r.sums_below (mul m x.a) (mul n y.a); b = r.sums_below (mul m x.b) (mul n y.b); c = r.sums_below (mul m x.c) (mul n y.c) }
 
-  abbrev form : Entries → Entries → ℕ
+  abbrev form : Vector → Vector → ℕ
   form = hermitian add mul conj
 
-  form_below : (x y : Entries) → form x y < q
+  form_below : (x y : Vector) → form x y < q
   unfolding hermitian
   form_below x y = r.sums_below (mul x.a (conj y.a)) (add (mul x.b (conj y.b)) (mul x.c (conj y.c)))
 
-  form-mix : (m : ℕ) (x : Entries) (n : ℕ) (y z : Entries) → form (mix m x n y) z ≡ add (mul m (form x z)) (mul n (form y z))
+  form-mix : (m : ℕ) (x : Vector) (n : ℕ) (y z : Vector) → form (mix m x n y) z ≡ add (mul m (form x z)) (mul n (form y z))
   unfolding hermitian mixed
   form-mix m x n y z = simp (r.products_distribute, adds_right, r.products_associate, r.products_commute, muls_left, r.sums_associate, r.sums_commute, adds_left)
 
-  form-turn : (x y : Entries) → Below y → form y x ≡ conj (form x y)
+  form-turn : (x y : Vector) → Below y → form y x ≡ conj (form x y)
   unfolding hermitian
   form-turn x y l =
       sym (conjugation.sums (mul x.a (conj y.a)) (add (mul x.b (conj y.b)) (mul x.c (conj y.c))) (r.products_below x.a (conj y.a)) (r.sums_below (mul x.b (conj y.b)) (mul x.c (conj y.c)))
@@ -108,13 +99,13 @@ module _ (q : ℕ) (add mul : ℕ → ℕ → ℕ) (field : IsField q add mul) (
   none : (m n : ℕ) → add (mul m 0) (mul n 0) ≡ 0
   none m n = ap₂ add (times_zero m) (times_zero n) ∙ plus_zero
 
-  turned_zero : (x y : Entries) → Below y → form x y ≡ 0 → form y x ≡ 0
+  turned_zero : (x y : Vector) → Below y → form x y ≡ 0 → form y x ≡ 0
   turned_zero x y l e = form-turn x y l ∙ ap conj e ∙ conj_zero
 
-  mixed_zero : (m : ℕ) (x : Entries) (n : ℕ) (y z : Entries) → form x z ≡ 0 → form y z ≡ 0 → form (mix m x n y) z ≡ 0
+  mixed_zero : (m : ℕ) (x : Vector) (n : ℕ) (y z : Vector) → form x z ≡ 0 → form y z ≡ 0 → form (mix m x n y) z ≡ 0
   mixed_zero m x n y z e f = form-mix m x n y z ∙ ap₂ (λ s t. add (mul m s) (mul n t)) e f ∙ none m n
 
-  flat : (m : ℕ) (x : Entries) (n : ℕ) (y : Entries) → Below x → Below y → form x x ≡ 0 → form y y ≡ 0 → form x y ≡ 0 → form (mix m x n y) (mix m x n y) ≡ 0
+  flat : (m : ℕ) (x : Vector) (n : ℕ) (y : Vector) → Below x → Below y → form x x ≡ 0 → form y y ≡ 0 → form x y ≡ 0 → form (mix m x n y) (mix m x n y) ≡ 0
   flat m x n y lx ly xx yy xy =
       let yx : form y x ≡ 0 = turned_zero x y ly xy in
       let z = mix m x n y in
@@ -136,24 +127,24 @@ module _ (q : ℕ) (add mul : ℕ → ℕ → ℕ) (field : IsField q add mul) (
   times_conj : (s t : ℕ) → t ≡ 0 → mul s (conj t) ≡ 0
   times_conj s t e = ap (λ w. mul s (conj w)) e ∙ ap (mul s) conj_zero ∙ times_zero s
 
-  only_a : (u : Entries) → Below u → u.b ≡ 0 → u.c ≡ 0 → form u u ≡ 0 → u.a ≡ 0
+  only_a : (u : Vector) → Below u → u.b ≡ 0 → u.c ≡ 0 → form u u ≡ 0 → u.a ≡ 0
   unfolding hermitian
   only_a u l b c e = norm_zero u.a l.a (sym (first_alone _ _ _ (r.products_below u.a (conj u.a)) (times_none u.b (conj u.b) b) (times_none u.c (conj u.c) c)) ∙ e)
 
-  only_b : (u : Entries) → Below u → u.a ≡ 0 → u.c ≡ 0 → form u u ≡ 0 → u.b ≡ 0
+  only_b : (u : Vector) → Below u → u.a ≡ 0 → u.c ≡ 0 → form u u ≡ 0 → u.b ≡ 0
   unfolding hermitian
   only_b u l a c e = norm_zero u.b l.b (sym (second_alone _ _ _ (r.products_below u.b (conj u.b)) (times_none u.a (conj u.a) a) (times_none u.c (conj u.c) c)) ∙ e)
 
-  only_c : (u : Entries) → Below u → u.a ≡ 0 → u.b ≡ 0 → form u u ≡ 0 → u.c ≡ 0
+  only_c : (u : Vector) → Below u → u.a ≡ 0 → u.b ≡ 0 → form u u ≡ 0 → u.c ≡ 0
   unfolding hermitian
   only_c u l a b e = norm_zero u.c l.c (sym (third_alone _ _ _ (r.products_below u.c (conj u.c)) (times_none u.a (conj u.a) a) (times_none u.b (conj u.b) b)) ∙ e)
 
   -- a multiple c * x, where c is not 0
-  module _ (c : ℕ) (x o : Entries) (hc : c < q) (lx : Below x) where
+  module _ (c : ℕ) (x o : Vector) (hc : c < q) (lx : Below x) where
     form-multiple : form (mix c x 0 o) (mix c x 0 o) ≡ mul c (mul (conj c) (conj (form x x)))
     form-multiple =
         let u = mix c x 0 o in
-        let alone : (z : Entries) → form u z ≡ mul c (form x z) = λ z. form-mix c x 0 o z ∙ ap (add (mul c (form x z))) (zero_times (form o z)) ∙ r.zero_neutral (mul c (form x z)) (r.products_below c (form x z)) in
+        let alone : (z : Vector) → form u z ≡ mul c (form x z) = λ z. form-mix c x 0 o z ∙ ap (add (mul c (form x z))) (zero_times (form o z)) ∙ r.zero_neutral (mul c (form x z)) (r.products_below c (form x z)) in
         alone u ∙ ap (mul c) (form-turn u x lx ∙ ap conj (alone x) ∙ conjugation.products c (form x x))
 
     pub multiple_zero : form x x ≡ 0 → form (mix c x 0 o) (mix c x 0 o) ≡ 0
@@ -183,7 +174,7 @@ module _ (q : ℕ) (add mul : ℕ → ℕ → ℕ) (field : IsField q add mul) (
   unfolding negative
   crossed s t = ap (add (mul t s)) (r.products_commute (r.negatives s).0 t) ∙ sym (r.products_distribute t s (r.negatives s).0) ∙ ap (mul t) (r.negatives s).2 ∙ times_zero t
 
-  steep : (p z : Entries) → Below p → Below z → p.a ≢ 0 → z.a ≡ 0 → z.b ≢ 0 → form p p ≡ 0 → form z z ≡ 0 → form p z ≡ 0 → ⊥
+  steep : (p z : Vector) → Below p → Below z → p.a ≢ 0 → z.a ≡ 0 → z.b ≢ 0 → form p p ≡ 0 → form z z ≡ 0 → form p z ≡ 0 → ⊥
   unfolding mixed hermitian negative
   steep p z lp lz pa za zb pp zz pz =
       elim (zero_or w.c (conj z.c) lw.c (conjugation.below z.c) (sym last ∙ mixed_zero z.b p (negative p.b) z z pz zz)) [
@@ -191,7 +182,7 @@ module _ (q : ℕ) (add mul : ℕ → ℕ → ℕ) (field : IsField q add mul) (
         | inr e ↦ zb (only_b z lz za (zero_conj z.c lz.c e) zz)
       ]
     where
-      w : Entries
+      w : Vector
       w = mix z.b p (negative p.b) z
 
       lw : Below w
@@ -203,7 +194,7 @@ module _ (q : ℕ) (add mul : ℕ → ℕ → ℕ) (field : IsField q add mul) (
       last : form w z ≡ mul w.c (conj z.c)
       last = third_alone (mul w.a (conj z.a)) (mul w.b (conj z.b)) (mul w.c (conj z.c)) (r.products_below w.c (conj z.c)) (times_conj w.a z.a za) (times_none w.b (conj z.b) (crossed p.b z.b))
 
-  module _ (x y : Entries) (lx : Below x) (ly : Below y) (independent : IsIndependent q add mul x y) (xx : form x x ≡ 0) (yy : form y y ≡ 0) where
+  module _ (x y : Vector) (lx : Below x) (ly : Below y) (independent : IsIndependent q add mul x y) (xx : form x x ≡ 0) (yy : form y y ≡ 0) where
     module _ (xy : form x y ≡ 0) where
       lone : (m n : ℕ) → m < q → n < q → (mix m x n y).a ≡ 0 → (mix m x n y).b ≡ 0 → (m ≡ 0) × (n ≡ 0)
       lone m n lm ln a b = independent m n lm ln a b (only_c (mix m x n y) (mix_below m x n y) a b (flat m x n y lx ly xx yy xy))
@@ -216,7 +207,7 @@ module _ (q : ℕ) (add mul : ℕ → ℕ → ℕ) (field : IsField q add mul) (
           let one_none : ◌≡◌ {A = ℕ} 1 0 = (lone 1 0 r.one_below positive (ap₂ (λ s t. add (mul 1 s) (mul 0 t)) xa ya ∙ none 1 0) (ap₂ (λ s t. add (mul 1 s) (mul 0 t)) xb cross.0 ∙ none 1 0)).0 in
           absurd (omega arith)
 
-      z : Entries
+      z : Vector
       z = mix y.a x (negative x.a) y
 
       lz : Below z

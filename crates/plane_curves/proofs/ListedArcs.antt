@@ -4,21 +4,26 @@ use Rattle.std.proofs.Common.{Bool, None, Option, Some, ap, arith, false, length
 use Rattle.std.proofs.Math.Nat.{one-le-pow, pow-le-pow_right}
 use Rattle.std.proofs.lemmas.Nat.{pow-add}
 use Rattle.std.proofs.lemmas.Bool.{and_parts, eq-eqb, eqb-true, false≢true, ltb-true}
-use Rattle.std.specs.Prelude.{is_some, nat_lt, not, ◌&&◌, ◌==◌}
+use Rattle.std.specs.Prelude.{All, List, is_some, nat_lt, not, ◌&&◌, ◌==◌}
 use Rattle.counting.specs.Search.{each_passes, first_in}
 use Rattle.counting.specs.Sums.{join_below, list_below}
-use Rattle.design_base.specs.Blocks.{IsBibd}
+use Rattle.design_base.specs.Blocks.{IsBibd, cover}
 use Rattle.design_base.specs.Canonical.{canonical}
 use Rattle.design_base.specs.Fields.{Modulus, field_product, field_sum, has_field, product_in, modulus_of, moduli, sum_in}
 use Rattle.field_tables.proofs.Listed.{listed_field, modulus_known}
 use Rattle.field_tables.proofs.Search.{passes_below}
 use Rattle.spaces.proofs.Bounds.{order_above}
 use Rattle.spaces.proofs.Leads.{length-points}
-use Rattle.spaces.specs.Lines.{projective_lines}
+use Rattle.spaces.specs.Lines.{projective_lines, projective_lines_over}
 use Rattle.spaces.specs.Points.{points}
 use Rattle.plane_curves.specs.Curves.{arc_blocks, form_blocks, is_on_arc, is_rootless, least_rootless}
-use Rattle.plane_curves.specs.Traces.{points_on}
-use Rattle.plane_curves.proofs.Arcs.{arc_design, arc_points}
+use Rattle.plane_curves.specs.Traces.{points_on, trace}
+use Rattle.plane_curves.proofs.Arcs.{arc_design, arc_points, sections}
+use Rattle.plane_curves.proofs.CurveLists.{are_over, curve_lines, length-curve_points}
+use Rattle.plane_curves.specs.Secants.{IsOver, curve_points, secant}
+use Rattle.plane_curves.specs.declared.vectors.Vector.{Vector}
+use Rattle.spaces.specs.Least.{least_lines}
+use Rattle.design_base.specs.Rings.{IsField}
 use Rattle.spaces.proofs.LineDesigns.{listed_projective}
 
 -- the sums of two numbers below M are below M
@@ -104,11 +109,40 @@ module _ (r s : ℕ) (some : 1 ≤ r) (less : r < s) (few : s ≤ 7) where
   unfolding M q
   small = pow-le-pow_right (let e : 0 < 2 = omega arith in e) (omega arith)
 
+  field : IsField q add mul
+  unfolding add mul
+  field = listed_field q listed
+
+  abbrev curve : ℕ → Bool
+  curve = is_on_arc add mul q c M
+
+  one_line : (x y : ℕ) → x < y → y < length (points q 3) → cover (projective_lines_over add mul q 3) x y ≡ 1
+  unfolding projective_lines add mul
+  one_line x y l m = (listed_projective q listed 2).pairs x y l (subst (λ n. y < n) (length-points q (order_above q listed) 2) m)
+
+  design : IsBibd (canonical (trace (points_on curve (points q 3)) (projective_lines_over add mul q 3))) (length (points_on curve (points q 3))) M 1
+  design = arc_design q add mul field facts.0 c M small closed facts.1 no_root one_line
+
+  count : (v : ℕ) → v + 2 ^ s ≡ 2 ^ (r + s) + 2 ^ r → length (points_on curve (points q 3)) ≡ v
+  unfolding q M
+  count v e = arc_points q add mul field facts.0 c M small closed facts.1 no_root (one-le-pow r 2 (omega arith)) ∙ total_is (2 ^ r) (2 ^ s) (2 ^ (r + s)) v (one-le-pow r 2 (let e : 0 < 2 = omega arith in e)) (pow-add 2 r s) e
+
   pub arc_is_design : (v : ℕ) → v + 2 ^ s ≡ 2 ^ (r + s) + 2 ^ r → IsBibd (canonical (arc_blocks r s)) v (2 ^ r) 1
   unfolding form_blocks projective_lines q M add mul c
-  arc_is_design v e =
-      let field = listed_field q listed in
-      let count : length (points_on (is_on_arc add mul q c M) (points q 3)) ≡ v =
-      arc_points q add mul field facts.0 c M small closed facts.1 no_root (one-le-pow r 2 (omega arith)) ∙ total_is (2 ^ r) (2 ^ s) (2 ^ (r + s)) v (one-le-pow r 2 (let e : 0 < 2 = omega arith in e)) (pow-add 2 r s) e in
-      subst (λ n. IsBibd (canonical (arc_blocks r s)) n M 1) count
-      (arc_design q add mul field facts.0 c M small closed facts.1 no_root (λ x y l m. (listed_projective q listed 2).pairs x y l (subst (λ n. y < n) (length-points q (order_above q listed) 2) m)))
+  arc_is_design v e = subst (λ n. IsBibd (canonical (arc_blocks r s)) n M 1) (count v e) design
+
+  -- the points of the arc, and what lists the lines of two of them
+  abbrev pub listed_points : List Vector
+  listed_points = curve_points (2 ^ s) (is_on_arc (field_sum (2 ^ s)) (field_product (2 ^ s)) (2 ^ s) (least_rootless (field_sum (2 ^ s)) (field_product (2 ^ s)) (2 ^ s)) (2 ^ r)) ((2 ^ s) ^ 3)
+
+  pub length-listed_points : (v : ℕ) → v + 2 ^ s ≡ 2 ^ (r + s) + 2 ^ r → length listed_points ≡ v
+  unfolding q M add mul c
+  length-listed_points v e = length-curve_points q add mul field curve ∙ count v e
+
+  pub listed_points_over : All (IsOver (2 ^ s)) listed_points
+  unfolding q M add mul c
+  listed_points_over = are_over q add mul field curve
+
+  pub arc_lines : canonical (least_lines (secant (field_sum (2 ^ s)) (field_product (2 ^ s)) listed_points) (length listed_points)) ≡ canonical (arc_blocks r s)
+  unfolding form_blocks projective_lines q M add mul c
+  arc_lines = curve_lines q add mul field curve M (sections q add mul field facts.0 c M small closed facts.1 no_root) design

@@ -3,7 +3,7 @@
 use Rattle.std.proofs.Common.{Bool, None, Option, Some, ap, arith, false, get_or, length, refl, subst, suc, sym, true, zero, ℕ, ◌*◌, ◌+◌, ◌-◌, ◌<◌, ◌^◌, ◌∙◌, ◌≡◌, ◌≤◌}
 use Rattle.std.proofs.Math.Nat.{pos_of_ne-zero}
 use Rattle.std.proofs.lemmas.Bool.{and_parts, eqb-true}
-use Rattle.std.specs.Prelude.{is_some, ◌&&◌, ◌==◌}
+use Rattle.std.specs.Prelude.{All, List, is_some, ◌&&◌, ◌==◌}
 use Rattle.counting.proofs.Counts.{sum_below-same}
 use Rattle.counting.proofs.OnePlace.{filter_sum}
 use Rattle.counting.specs.Search.{each_passes, first_in}
@@ -21,15 +21,19 @@ use Rattle.spaces.proofs.Bounds.{order_above}
 use Rattle.spaces.proofs.Leads.{is_lead, length-points, points_apart}
 use Rattle.spaces.proofs.Projective.{ArePlaced}
 use Rattle.spaces.proofs.Space.{IsSpace}
-use Rattle.spaces.specs.Lines.{projective_lines}
+use Rattle.spaces.specs.Lines.{projective_lines, projective_lines_over}
 use Rattle.spaces.specs.Points.{lead, points, points_below}
 use Rattle.spaces.specs.Vectors.{multiple, vector_sum}
 use Rattle.plane_curves.specs.Curves.{is_power_zero, unital_blocks}
-use Rattle.plane_curves.specs.Traces.{points_on}
+use Rattle.plane_curves.specs.Traces.{points_on, trace}
 use Rattle.plane_curves.proofs.Hermitian.{IsConjugation}
 use Rattle.spaces.proofs.LineDesigns.{listed_projective, places}
 use Rattle.plane_curves.proofs.Sections.{length_filtered, point_at, sum_places, vectors}
-use Rattle.plane_curves.proofs.Unitals.{unital_design}
+use Rattle.plane_curves.proofs.Unitals.{unital_design, unital_sections}
+use Rattle.plane_curves.proofs.CurveLists.{are_over, curve_lines, length-curve_points}
+use Rattle.plane_curves.specs.Secants.{IsOver, curve_points, secant}
+use Rattle.plane_curves.specs.declared.vectors.Vector.{Vector}
+use Rattle.spaces.specs.Least.{least_lines}
 
 abbrev conjugates : (ℕ → ℕ → ℕ) → (ℕ → ℕ → ℕ) → ℕ → ℕ → Bool
 conjugates add mul q p =
@@ -101,7 +105,7 @@ hermitian_field p f found =
     let known = modulus_known (p * p) f found in
     ap (λ add. is_hermitian add (product_in (Some f)) p) (sym known.sums) ∙ ap (λ mul. is_hermitian (field_sum (p * p)) mul p) (sym known.products)
 
-order_known : (p : ℕ) → 2 ≤ p → p ≤ 5 → (has_field (p * p) ≡ true) × (is_hermitian (field_sum (p * p)) (field_product (p * p)) p ≡ true)
+pub order_known : (p : ℕ) → 2 ≤ p → p ≤ 5 → (has_field (p * p) ≡ true) × (is_hermitian (field_sum (p * p)) (field_product (p * p)) p ≡ true)
 order_known p l m = by (modulus_of (p * p)) refl passes
   where
     passes : order_passes p ≡ true
@@ -149,9 +153,31 @@ module _ (p : ℕ) (two : 2 ≤ p) (few : p ≤ 5) where
         multiple = λ z h ne. let w = finds.each z (pos_of_ne-zero ne) h in (w.factor, w.small, w.equal);
       }
 
+  abbrev curve : ℕ → Bool
+  curve = is_power_zero add mul q (p + 1)
+
+  design : IsBibd (canonical (trace (points_on curve (points q 3)) (projective_lines_over add mul q 3))) (length (points_on curve (points q 3))) (p + 1) 1
+  unfolding projective_lines q
+  design = unital_design q add mul field p (conjugation q add mul field p facts.0) facts.1 (λ z. get_or (places q listed 3).0 z 0) placed
+      (λ x y l m. (listed_projective q listed 2).pairs x y l (subst (λ n. y < n) (length-points q (order_above q listed) 2) m))
+
   pub unital_is_design : IsBibd (canonical (unital_blocks p)) (p ^ 3 + 1) (p + 1) 1
   unfolding unital_blocks projective_lines q
-  unital_is_design =
-      subst (λ n. IsBibd (canonical (unital_blocks p)) n (p + 1) 1) (points_counted q p add mul ∙ facts.2)
-      (unital_design q add mul field p (conjugation q add mul field p facts.0) facts.1 (λ z. get_or (places q listed 3).0 z 0) placed
-      (λ x y l m. (listed_projective q listed 2).pairs x y l (subst (λ n. y < n) (length-points q (order_above q listed) 2) m)))
+  unital_is_design = subst (λ n. IsBibd (canonical (unital_blocks p)) n (p + 1) 1) (points_counted q p add mul ∙ facts.2) design
+
+  -- the points of the curve, and what lists the lines of two of them
+  abbrev pub unital_points : List Vector
+  unital_points = curve_points (p * p) (is_power_zero (field_sum (p * p)) (field_product (p * p)) (p * p) (p + 1)) ((p * p) ^ 3)
+
+  pub length-unital_points : length unital_points ≡ p ^ 3 + 1
+  unfolding q
+  length-unital_points = length-curve_points q add mul field curve ∙ points_counted q p add mul ∙ facts.2
+
+  pub unital_points_over : All (IsOver (p * p)) unital_points
+  unfolding q
+  unital_points_over = are_over q add mul field curve
+
+  pub unital_lines : canonical (least_lines (secant (field_sum (p * p)) (field_product (p * p)) unital_points) (length unital_points)) ≡ canonical (unital_blocks p)
+  unfolding unital_blocks projective_lines q
+  unital_lines = curve_lines q add mul field curve (p + 1)
+      (unital_sections q add mul field p (conjugation q add mul field p facts.0) facts.1 (λ z. get_or (places q listed 3).0 z 0) placed) design

@@ -39,7 +39,7 @@ use Rattle.plane_curves.specs.Traces.{points_on, trace}
 use Rattle.plane_curves.proofs.Traces.{IsCut, holds_filtered, trace_design}
 
 -- two numbers below n that pass a test, or no two
-two_pass : (n : ℕ) (p : ℕ → Bool) → (sum_below n (λ i. one (p i)) ≤ 1) ⊎ ((i : ℕ) × (j : ℕ) × (i < j) × (j < n) × (p i ≡ true) × (p j ≡ true))
+pub two_pass : (n : ℕ) (p : ℕ → Bool) → (sum_below n (λ i. one (p i)) ≤ 1) ⊎ ((i : ℕ) × (j : ℕ) × (i < j) × (j < n) × (p i ≡ true) × (p j ≡ true))
 two_pass zero p = inl (omega (arith, sum_below-none (λ i. one (p i))))
 two_pass (suc n) p = elim (two_pass n p) [
   | inr t ↦ inr (t.0, t.1, t.2, omega (arith, t.3), t.4, t.5)
@@ -122,7 +122,7 @@ module _ (q : ℕ) (add mul : ℕ → ℕ → ℕ) (field : IsField q add mul) (
     S = points_on curve P
 
     -- how many of the points are in a plane
-    part_size : (W : List ℕ) → length (points_in S (points_in P W)) ≡ sum_below N (λ u. one (curve (at u) && holds (at u) W))
+    pub part_size : (W : List ℕ) → length (points_in S (points_in P W)) ≡ sum_below N (λ u. one (curve (at u) && holds (at u) W))
     unfolding points_in points_on
     part_size W =
         length_filtered (λ m. holds (get_or S m 0) (points_in P W)) (length S)
@@ -157,7 +157,7 @@ module _ (q : ℕ) (add mul : ℕ → ℕ → ℕ) (field : IsField q add mul) (
         All-from_recursion (IsCut S k) _ (each-dedup lex_le lex_le-order (IsCut S k) _ (each-sort_by lex_le (IsCut S k) _ (each_map (sort_by nat_le) (IsCut S k) (IsCut S k) cut_sorted (join_below N each)
         (recursion_from_All (IsCut S k) (join_below N each) (All-join_below (IsCut S k) N each (λ j l. All-from_recursion (IsCut S k) _ (each_below (IsCut S k) j (λ i. points_in P (plane (at i) (at j))) (λ i m. cut i j m l))))))))
 
-    rises : (i j : ℕ) → i < j → j < length S → get_or S i 0 < get_or S j 0
+    pub rises : (i j : ℕ) → i < j → j < length S → get_or S i 0 < get_or S j 0
     unfolding points_on
     rises i j l m = AllPairs-from_increasing S (IsStrictlyIncreasing-filter (λ i. curve (at i)) (list_below N (λ i. i)) increasing) i j 0 l m
       where
@@ -166,7 +166,7 @@ module _ (q : ℕ) (add mul : ℕ → ℕ → ℕ) (field : IsField q add mul) (
             let short : m + 1 < N = omega (arith, length-list_below N (λ (i : ℕ). i)) in
             omega (arith, get_or-list_below N (λ i. i) m 0 (omega arith), get_or-list_below N (λ i. i) (m + 1) 0 short)
 
-    below : (i : ℕ) → i < length S → get_or S i 0 < N
+    pub below : (i : ℕ) → i < length S → get_or S i 0 < N
     unfolding points_on
     below i l = All-from_recursion (λ z. z < N) S (all_filter (λ z. z < N) (λ z. z < N) (λ i. curve (at i)) (λ z l e. l) (list_below N (λ i. i)) (each_below (λ z. z < N) N (λ i. i) (λ i l. l))) i 0 l
 

@@ -24,15 +24,12 @@ use Rattle.spaces.specs.Vectors.{combination, multiple, vector_sum}
 use Rattle.plane_curves.specs.Curves.{is_power_zero}
 use Rattle.plane_curves.specs.Traces.{points_on, trace}
 use Rattle.plane_curves.proofs.Arcs.{entry_first, entry_rest, sum_set}
-use Rattle.plane_curves.proofs.Hermitian.{AreBelow, Entries, IsConjugation, IsIndependent, hermitian, line_zeros, mixed, multiple_zero, multiple_zero-from}
+use Rattle.plane_curves.proofs.Hermitian.{IsConjugation, IsIndependent, hermitian, line_zeros, mixed, multiple_zero, multiple_zero-from}
+use Rattle.plane_curves.specs.Secants.{entries as entries_of}
+use Rattle.plane_curves.specs.declared.vectors.Vector.{Vector}
+use Rattle.plane_curves.proofs.Planes.{entries-mix, entries_below, independent as independent_of, no_weights as weights_of}
 use Rattle.plane_curves.proofs.Sections.{curve_design, in_plane, plane_holds, point_at, vectors}
 use Rattle.plane_curves.proofs.Traces.{holds_filtered}
-
-abbrev made : ℕ → ℕ → ℕ → Entries
-made a b c = record { a = a; b = b; c = c }
-
-same_entries : (a d b e c f : ℕ) → a ≡ d → b ≡ e → c ≡ f → made a b c ≡ made d e f
-same_entries a d b e c f p q r = ap (λ t. made t b c) p ∙ ap (λ t. made d t c) q ∙ ap (made d e) r
 
 module _ (q : ℕ) (add mul : ℕ → ℕ → ℕ) (field : IsField q add mul) (p : ℕ) (conjugation : IsConjugation q add mul (λ x. power mul x p))
     (kernel : sum_below q (λ w. one (add w (power mul w p) == 0)) ≡ p) where
@@ -69,29 +66,18 @@ module _ (q : ℕ) (add mul : ℕ → ℕ → ℕ) (field : IsField q add mul) (
   positive : 0 < q
   positive = omega (arith, r.one_below)
 
-  entries : ℕ → Entries
-  entries z = record { a = z % q; b = z / q % q; c = z / q / q % q }
+  abbrev entries : ℕ → Vector
+  entries = entries_of q
 
-  entries_below : (z : ℕ) → AreBelow q (entries z)
-  unfolding entries
-  entries_below z = record { a = mod-lt z positive; b = mod-lt (z / q) positive; c = mod-lt (z / q / q) positive }
-
-  abbrev value : Entries → ℕ
+  abbrev value : Vector → ℕ
   value x = hermitian add mul conj x x
-
-  entries-mix : (m x n y : ℕ) → entries (combination add mul q 3 m x n y) ≡ mixed add mul m (entries x) n (entries y)
-  unfolding entries mixed
-  entries-mix m x n y = same_entries _ _ _ _ _ _
-      (entry_first q add mul field 2 m x n y)
-      (ap (λ t. t % q) (entry_rest q add mul field 2 m x n y) ∙ entry_first q add mul field 1 m (x / q) n (y / q))
-      (ap (λ t. t / q % q) (entry_rest q add mul field 2 m x n y) ∙ ap (λ t. t % q) (entry_rest q add mul field 1 m (x / q) n (y / q)) ∙ entry_first q add mul field 0 m (x / q / q) n (y / q / q))
 
   norm : (x : ℕ) → power mul x (p + 1) ≡ mul x (conj x)
   unfolding power
   norm x = ap (power mul x) (let e : p + 1 ≡ suc p = omega arith in e) ∙ r.products_commute (power mul x p) x
 
   curve_is : (z : ℕ) → curve z ≡ (value (entries z) == 0)
-  unfolding is_power_zero hermitian entries
+  unfolding is_power_zero hermitian entries_of
   curve_is z = ap₂ (λ t u. add t u == 0) (norm (z % q)) (ap₂ add (norm (z / q % q)) (norm (z / q / q % q)))
 
   on_curve : (z : ℕ) → curve z ≡ true → value (entries z) ≡ 0
@@ -100,10 +86,10 @@ module _ (q : ℕ) (add mul : ℕ → ℕ → ℕ) (field : IsField q add mul) (
   -- multiples
   curve_multiple : (c z : ℕ) → c < q → c ≢ 0 → curve (scale c z) ≡ curve z
   curve_multiple c z l ne =
-      curve_is (scale c z) ∙ ap (λ t. value t == 0) (ap entries (sym (combination-multiple q add mul field 3 c z)) ∙ entries-mix c z 0 0)
+      curve_is (scale c z) ∙ ap (λ t. value t == 0) (ap entries (sym (combination-multiple q add mul field 3 c z)) ∙ entries-mix q add mul field c z 0 0)
       ∙ bool_same _ _
-      (λ h. eq-eqb _ _ (multiple_zero-from q add mul field conj conjugation c (entries z) (entries 0) l (entries_below z) ne (eqb-true _ _ h)))
-      (λ h. eq-eqb _ _ (multiple_zero q add mul field conj conjugation c (entries z) (entries 0) l (entries_below z) (eqb-true _ _ h)))
+      (λ h. eq-eqb _ _ (multiple_zero-from q add mul field conj conjugation c (entries z) (entries 0) l (entries_below q add mul field z) ne (eqb-true _ _ h)))
+      (λ h. eq-eqb _ _ (multiple_zero q add mul field conj conjugation c (entries z) (entries 0) l (entries_below q add mul field z) (eqb-true _ _ h)))
       ∙ sym (curve_is z)
 
   abbrev lead_of : ℕ → ℕ
@@ -139,25 +125,11 @@ module _ (q : ℕ) (add mul : ℕ → ℕ → ℕ) (field : IsField q add mul) (
       apart : x ≢ y
       apart e = ne (points_apart q 3 i j hi hj e)
 
-      -- the weights of the vector 0
       no_weights : (m n : ℕ) → m < q → n < q → combination add mul q 3 m x n y ≡ 0 → (m ≡ 0) × (n ≡ 0)
-      unfolding combination
-      no_weights m n lm ln e = one_mix q (q ^ 3) add mul sum scale space lead_of (is_lead q add mul field 3) x y (point_at q add mul field 3 i hi) (point_at q add mul field 3 j hj) apart 0 m n 0 0
-          (record { first = lm; second = ln; made = e })
-          (record {
-            first = positive;
-            second = positive;
-            made = ap₂ sum (zero-scale q (q ^ 3) add mul sum scale space x) (zero-scale q (q ^ 3) add mul sum scale space y) ∙ s.zero_neutral 0 space.some;
-          })
-
-      zero_entries : (z : ℕ) → z < q ^ 3 → (entries z).a ≡ 0 → (entries z).b ≡ 0 → (entries z).c ≡ 0 → z ≡ 0
-      unfolding entries
-      zero_entries z l a b c = sym (number-digits q positive 3 z l) ∙ omega (arith, a, b, c, ap (λ t. q * t) b, ap (λ t. q * (z / q % q + q * t)) c)
+      no_weights = weights_of q add mul field x y (point_at q add mul field 3 i hi) (point_at q add mul field 3 j hj) apart
 
       independent : IsIndependent q add mul (entries x) (entries y)
-      independent m n lm ln a b c =
-          let same = entries-mix m x n y in
-          no_weights m n lm ln (zero_entries (combination add mul q 3 m x n y) (combination_below q add mul r 3 m x n y) (ap (λ (e : Entries). e.a) same ∙ a) (ap (λ (e : Entries). e.b) same ∙ b) (ap (λ (e : Entries). e.c) same ∙ c))
+      independent = independent_of q add mul field x y (point_at q add mul field 3 i hi) (point_at q add mul field 3 j hj) apart
 
       mix_of : ℕ → ℕ
       mix_of t = combination add mul q 3 (first_coefficient t) x (second_coefficient t) y
@@ -191,8 +163,8 @@ module _ (q : ℕ) (add mul : ℕ → ℕ → ℕ) (field : IsField q add mul) (
 
       others : sum_below q (λ t. one (curve (mix_of t))) ≡ p
       others =
-          sum_below-same q _ (λ t. one (value (mixed add mul 1 (entries x) t (entries y)) == 0)) (λ t l. ap one (ap curve (mix_first t l) ∙ curve_is (combination add mul q 3 1 x t y) ∙ ap (λ e. value e == 0) (entries-mix 1 x t y)))
-          ∙ line_zeros q add mul field conj conjugation (entries x) (entries y) (entries_below x) (entries_below y) independent (on_curve x ci) (on_curve y cj)
+          sum_below-same q _ (λ t. one (value (mixed add mul 1 (entries x) t (entries y)) == 0)) (λ t l. ap one (ap curve (mix_first t l) ∙ curve_is (combination add mul q 3 1 x t y) ∙ ap (λ e. value e == 0) (entries-mix q add mul field 1 x t y)))
+          ∙ line_zeros q add mul field conj conjugation (entries x) (entries y) (entries_below q add mul field x) (entries_below q add mul field y) independent (on_curve x ci) (on_curve y cj)
           ∙ kernel
 
       last : one (curve (mix_of q)) ≡ 1
@@ -220,6 +192,9 @@ module _ (q : ℕ) (add mul : ℕ → ℕ → ℕ) (field : IsField q add mul) (
           (pair_below q (q ^ 3) add mul sum scale space lead_of (is_lead q add mul field 3) P place placed first_coefficient second_coefficient are_coefficients i j hi hj ne))
           ∙ on_pair
 
+    pub unital_sections : (i j : ℕ) → i < j → j < N → curve (at i) ≡ true → curve (at j) ≡ true → sum_below N (λ u. one (curve (at u) && holds (at u) (subspace add mul q 3 (at i) (at j)))) ≡ p + 1
+    unital_sections i j l m ci cj = section i j (omega arith) m (λ e. absurd (omega arith)) ci cj
+
     pub unital_design : ((x y : ℕ) → x < y → y < N → cover (projective_lines_over add mul q 3) x y ≡ 1) →
         IsBibd (canonical (trace (points_on curve P) (projective_lines_over add mul q 3))) (length (points_on curve P)) (p + 1) 1
-    unital_design = curve_design q add mul field 3 curve (p + 1) (λ i j l m ci cj. section i j (omega arith) m (λ e. absurd (omega arith)) ci cj)
+    unital_design = curve_design q add mul field 3 curve (p + 1) unital_sections

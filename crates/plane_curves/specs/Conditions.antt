@@ -7,12 +7,13 @@ pub record CanBuildUnital (q : ℕ) : Type 0 where
   pub order : 2 ≤ q
   pub points : q ^ 3 + 1 ≤ POINTS_MAX
 
+-- the number of points of the arc
+abbrev pub arc_size : ℕ → ℕ → ℕ
+arc_size r s = 2 ^ (r + s) + 2 ^ r - 2 ^ s
+
 -- the arc over the field of 2 ^ s elements whose lines hold 2 ^ r points
 pub record CanBuildArc (r s : ℕ) : Type 0 where
   pub two_points : 1 ≤ r
   pub smaller : r < s
   pub listed : s ≤ 7
-
--- the number of points of the arc
-abbrev pub arc_size : ℕ → ℕ → ℕ
-arc_size r s = 2 ^ (r + s) + 2 ^ r - 2 ^ s
+  pub points : arc_size r s ≤ POINTS_MAX
