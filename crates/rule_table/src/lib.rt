@@ -27,4 +27,6 @@ mod asked_tests;
 #[cfg(test)]
 mod bibd_tests;
 #[cfg(test)]
+mod part_tests;
+#[cfg(test)]
 mod tests;

@@ -9,4 +9,5 @@ pub mod PointCounts
 pub mod Products
 pub mod Ranks
 pub mod Rules
+pub mod Samples
 pub mod TdRules
