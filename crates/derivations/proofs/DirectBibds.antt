@@ -183,9 +183,15 @@ module _ (v k l : ℕ) (bounds : in_bounds (Bibd v k l) ≡ true) where
       let some = both (k == 2 ^ r && l == 1 && v == arc_size r s) (1 <= r) smaller.0 in
       let all = both (k == 2 ^ r && l == 1) (v == arc_size r s) some.0 in
       let sizes = both (k == 2 ^ r) (l == 1) all.0 in
+      let points : arc_size r s ≡ v = sym (eqb-true v (arc_size r s) all.1) in
       taken [] (CanBuildBibd v k l Arc r s c d) I meet (
-        record { two_points = leb-true 1 r some.1; smaller = grind (arith, nat_tests); listed = leb-true s 7 order.1 },
-        record { all = sym (eqb-true v (arc_size r s) all.1); block = sym (eqb-true k (2 ^ r) sizes.0); once = sym (eqb-true l 1 sizes.1) },
+        record {
+          two_points = leb-true 1 r some.1;
+          smaller = grind (arith, nat_tests);
+          listed = leb-true s 7 order.1;
+          points = omega (arith, points, in_range.points);
+        },
+        record { all = points; block = sym (eqb-true k (2 ^ r) sizes.0); once = sym (eqb-true l 1 sizes.1) },
       )
 
 -- triples under other words

@@ -27,11 +27,46 @@ fn assert_families<L: Ledger>(
 {
     let mut steps = Steps::<L>::new(blank);
     for (query, step, lines, blocks, first, last) in [
-        (df(Group::Cyclic, 61, 5, 1), Step::new(Rule::Table, 11, 0, 0, 0), 1, 3, [0, 1, 3, 13, 34].as_slice(), [0, 6, 17, 24, 32].as_slice()),
-        (df(Group::Field, 13, 4, 1), Step::new(Rule::Powers, 4, 1, 0, 0), 1, 1, [0, 1, 3, 9].as_slice(), [0, 1, 3, 9].as_slice()),
-        (df(Group::Field, 9, 4, 3), plain(Rule::Cosets), 1, 2, [1, 2, 3, 6].as_slice(), [4, 5, 7, 8].as_slice()),
-        (df(Group::Field, 5, 3, 3), plain(Rule::Cosets0), 1, 2, [0, 1, 4].as_slice(), [0, 2, 3].as_slice()),
-        (df(Group::Field, 25, 3, 1), plain(Rule::Halfcosets), 1, 4, [1, 7, 22].as_slice(), [6, 9, 15].as_slice()),
+        (
+            df(Group::Cyclic, 61, 5, 1),
+            Step::new(Rule::Table, 11, 0, 0, 0),
+            1,
+            3,
+            [0, 1, 3, 13, 34].as_slice(),
+            [0, 6, 17, 24, 32].as_slice(),
+        ),
+        (
+            df(Group::Field, 13, 4, 1),
+            Step::new(Rule::Powers, 4, 1, 0, 0),
+            1,
+            1,
+            [0, 1, 3, 9].as_slice(),
+            [0, 1, 3, 9].as_slice(),
+        ),
+        (
+            df(Group::Field, 9, 4, 3),
+            plain(Rule::Cosets),
+            1,
+            2,
+            [1, 2, 3, 6].as_slice(),
+            [4, 5, 7, 8].as_slice(),
+        ),
+        (
+            df(Group::Field, 5, 3, 3),
+            plain(Rule::Cosets0),
+            1,
+            2,
+            [0, 1, 4].as_slice(),
+            [0, 2, 3].as_slice(),
+        ),
+        (
+            df(Group::Field, 25, 3, 1),
+            plain(Rule::Halfcosets),
+            1,
+            4,
+            [1, 7, 22].as_slice(),
+            [6, 9, 15].as_slice(),
+        ),
     ] {
         let expected = Expected {
             query,

@@ -5,6 +5,7 @@ ghost use Rattle.design_base.specs.Geometries.{point_count};
 ghost use Rattle.spaces.specs.Lines.{affine_lines as affine_lines_of, projective_lines as projective_lines_of};
 ghost use Rattle.derivations.specs.DirectBibds.{direct_blocks, CanBuildDirect, CanListLines};
 
+use plane_curves::{arc, unital};
 use design_base::{Memory, Rule, Step};
 use field_tables::open_field;
 use gdd_pbd::{omit, pairs, whole};
@@ -60,6 +61,8 @@ pub(crate) fn build_direct(
         Rule::Ordered => ordered(alloc, v),
         Rule::Affine => affine_list(alloc, step.a, step.b),
         Rule::Projective => projective_list(alloc, step.a, step.b),
+        Rule::Unital => unital(alloc, step.a),
+        Rule::Arc => arc(alloc, step.a, step.b),
         _ => unreachable!(),
     }
 }

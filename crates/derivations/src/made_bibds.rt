@@ -28,15 +28,10 @@ pub(crate) fn build_made(
         (Rule::Developf, [base]) => develop(alloc, Group::Field, v, k, l, base),
         (Rule::Fill, [gdd, design]) => fill(alloc, k, a, b, gdd, design),
         (Rule::Fill1, [gdd, design]) => fill_with_point(alloc, k, a, b, gdd, design),
-        (Rule::Pbd, [pbd, small, large]) => pbd_to_bibd(
-            alloc,
-            (v - 1) / (k - 1),
-            a,
-            k,
-            pbd,
-            small,
-            large,
-        ),
+        (Rule::Pbd, [pbd, small, large]) => {
+            let points = (v - 1) / (k - 1);
+            pbd_to_bibd(alloc, points, a, k, pbd, small, large)
+        }
         (Rule::Sum, [first, second]) => sum(alloc, v, k, l, a, first, second),
         (Rule::Complement, [design]) => complement(alloc, v, k, l, design),
         _ => unreachable!(),

@@ -21,8 +21,6 @@ use Rattle.design_base.specs.declared.query.Query.TheVariants.{Df}
 use Rattle.design_checks.proofs.Meeting.{valid_from}
 use Rattle.design_checks.proofs.Valid.{family_is_valid, valid_is_family}
 use Rattle.design_checks.specs.Findings.{family_finding, is_valid, rises}
-use Rattle.design_checks.specs.declared.finding.Finding.{Finding}
-use Rattle.design_checks.specs.declared.finding.Finding.TheVariants.{Valid}
 use Rattle.difference_sets.specs.Families.{coset, cosets, field_cosets, power_blocks}
 use Rattle.difference_sets.specs.FamilySteps.{is_power_row, is_row}
 use Rattle.difference_sets.specs.Listed.{Family, families, family}

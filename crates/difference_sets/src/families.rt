@@ -16,14 +16,7 @@ use incidence::Rows;
 use std::alloc::Global;
 
 // Over the field of `q` elements the first `m` cosets of `f` nonzero elements, and 0 too in each where `z` is 1.
-fn field_rows(
-    alloc: Global,
-    q: u16,
-    z: u16,
-    e: u16,
-    f: u16,
-    m: u16,
-) -> Result<Rows, Memory>
+fn field_rows(alloc: Global, q: u16, z: u16, e: u16, f: u16, m: u16) -> Result<Rows, Memory>
     requires { CanBuildCosets q z e f m }
     ensures { IfOk result (λ rows. rows ≡ field_cosets q z e f m) }
 {

@@ -33,9 +33,15 @@ impl Sums {
         ensures { IfOk result (λ sums. sums ≡ (group, v)) }
     {
         match group {
-            Group::Cyclic => Ok(Sums { order: v, field: None }),
+            Group::Cyclic => Ok(Sums {
+                order: v,
+                field: None,
+            }),
             Group::Field => match open_field(alloc, v)? {
-                Some(field) => Ok(Sums { order: v, field: Some(field) }),
+                Some(field) => Ok(Sums {
+                    order: v,
+                    field: Some(field),
+                }),
                 None => unreachable!(),
             },
         }

@@ -112,11 +112,7 @@ fn designs(rt: HostRuntime) -> Result<(), Fail> {
         &[2, 3, 5],
         &[3, 4, 6],
     ];
-    assert_rows(
-        &rt,
-        &develop(alloc, Group::Cyclic, 7, 3, 1, &base)?,
-        &want,
-    );
+    assert_rows(&rt, &develop(alloc, Group::Cyclic, 7, 3, 1, &base)?, &want);
     let q = Query::Df {
         group: Group::Field,
         v: 4,
@@ -128,10 +124,6 @@ fn designs(rt: HostRuntime) -> Result<(), Fail> {
     assert!(&rt; is_family_step(&q, &step));
     let base = family(alloc, &q, &step)?;
     let want: [&[u16]; 4] = [&[0, 1, 2], &[0, 1, 3], &[0, 2, 3], &[1, 2, 3]];
-    assert_rows(
-        &rt,
-        &develop(alloc, Group::Field, 4, 3, 2, &base)?,
-        &want,
-    );
+    assert_rows(&rt, &develop(alloc, Group::Field, 4, 3, 2, &base)?, &want);
     Ok(())
 }

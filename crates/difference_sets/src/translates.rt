@@ -13,12 +13,7 @@ use incidence::Rows;
 use std::alloc::Global;
 
 // Appends the block with `c` added.
-fn push_translate(
-    rows: &mut Rows,
-    sums: &Sums,
-    block: &[u16],
-    c: u16,
-) -> Result<(), Memory>
+fn push_translate(rows: &mut Rows, sums: &Sums, block: &[u16], c: u16) -> Result<(), Memory>
     requires elements { All (λ x. x < sums.now.1) block.now }
     requires element { c < sums.now.1 }
     requires few { length block.now ≤ POINTS_MAX }
