@@ -15,7 +15,7 @@ use Rattle.plane_curves.specs.Laws.{ArcLaw, UnitalLaw}
 use Rattle.plane_curves.proofs.ListedArcs.{arc_is_design, arc_lines, even_field, length-listed_points, listed_points_over}
 use Rattle.plane_curves.proofs.ListedUnitals.{length-unital_points, order_known, unital_is_design, unital_lines, unital_points_over}
 
-order_few : (q : ℕ) → q ^ 3 + 1 ≤ POINTS_MAX → q ≤ 5
+pub order_few : (q : ℕ) → q ^ 3 + 1 ≤ POINTS_MAX → q ≤ 5
 order_few q h = elim (cases_lt q 6) [
   | inl l ↦ omega arith
   | inr l ↦ (let more : 6 ^ 3 ≤ q ^ 3 = pow-le-pow_left l 3 in absurd (omega (arith, more)))

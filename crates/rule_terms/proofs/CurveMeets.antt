@@ -1,7 +1,7 @@
 -- The designs on curves meet their questions, so that their lists need no check.
-use Rattle.std.proofs.Common.{Bool, List, ap, arith, false, inl, inr, refl, subst, sym, true, ℕ, ◌&&◌, ◌+◌, ◌-◌, ◌<◌, ◌==◌, ◌^◌, ◌∙◌, ◌≡◌, ◌≤◌}
-use Rattle.std.proofs.Math.Nat.{pow-le-pow_left, pow-le-pow_right}
-use Rattle.std.proofs.lemmas.Bool.{cases_lt, eqb-true, leb-true, ltb-true}
+use Rattle.std.proofs.Common.{Bool, List, ap, arith, false, refl, subst, sym, true, ℕ, ◌&&◌, ◌+◌, ◌-◌, ◌<◌, ◌==◌, ◌^◌, ◌∙◌, ◌≡◌, ◌≤◌}
+use Rattle.std.proofs.Math.Nat.{pow-le-pow_right}
+use Rattle.std.proofs.lemmas.Bool.{eqb-true, leb-true, ltb-true}
 use Rattle.std.specs.Prelude.{nat_lt}
 use Rattle.counting.specs.Search.{each_passes, first_in, ◌<=◌}
 use Rattle.counting.specs.Sums.{join_below, list_below}
@@ -13,7 +13,7 @@ use Rattle.design_base.specs.declared.query.Query.TheVariants.{Bibd}
 use Rattle.design_checks.proofs.Meeting.{passes_meets}
 use Rattle.design_checks.specs.Findings.{passes_check}
 use Rattle.field_tables.proofs.Search.{passes_below}
-use Rattle.plane_curves.proofs.CurveDesigns.{arcs, unitals}
+use Rattle.plane_curves.proofs.CurveDesigns.{arcs, order_few, unitals}
 use Rattle.plane_curves.proofs.ListedArcs.{even_field}
 use Rattle.plane_curves.specs.Conditions.{arc_size}
 use Rattle.plane_curves.specs.Curves.{arc_blocks, unital_blocks}
@@ -30,12 +30,6 @@ squares_listed = refl
 
 square_listed : (q : ℕ) → 2 ≤ q → q ≤ 5 → has_field (q ^ 2) ≡ true
 square_listed q l m = subst (λ x. has_field (x ^ 2) ≡ true) (let e : 2 + (q - 2) ≡ q = omega arith in e) (passes_below (λ q. has_field (q ^ 2)) 4 (λ i. 2 + i) squares_listed (q - 2) (omega arith))
-
-few_orders : (q : ℕ) → q ^ 3 + 1 ≤ POINTS_MAX → q ≤ 5
-few_orders q h = elim (cases_lt q 6) [
-  | inl l ↦ omega arith
-  | inr l ↦ (let more : 6 ^ 3 ≤ q ^ 3 = pow-le-pow_left l 3 in absurd (omega (arith, more)))
-]
 
 bibd_passes : (v w k m l : ℕ) (B : List (List ℕ)) → v ≡ w → k ≡ m → l ≡ 1 → IsBibd (canonical B) w m 1 → passes_check (Bibd v k l) B ≡ true
 bibd_passes v w k m l B points block once design =
@@ -59,7 +53,7 @@ unital_size v k l q e =
     record { block = eqb-true _ _ a.0; once = eqb-true _ _ a.1; points = eqb-true _ _ b.1; order = leb-true _ _ c.1 }
 
 unital_listed : (v k l q : ℕ) → v ≤ POINTS_MAX → IsUnitalSize v k l q → has_field (q ^ 2) ≡ true
-unital_listed v k l q few h = square_listed q h.order (few_orders q (omega (arith, few, h.points)))
+unital_listed v k l q few h = square_listed q h.order (order_few q (omega (arith, few, h.points)))
 
 unital_passes : (v k l q : ℕ) → v ≤ POINTS_MAX → IsUnitalSize v k l q → passes_check (Bibd v k l) (unital_blocks q) ≡ true
 unital_passes v k l q few h =
@@ -95,12 +89,12 @@ arc_numbers v k l r s g =
 arc_listed : (v k l r s : ℕ) → IsArcSize v k l r s → has_field (2 ^ s) ≡ true
 arc_listed v k l r s h = (even_field s (omega (arith, h.two, h.smaller)) h.listed).0
 
-arc_passes : (v k l r s : ℕ) → IsArcSize v k l r s → passes_check (Bibd v k l) (arc_blocks r s) ≡ true
-arc_passes v k l r s h =
-    bibd_passes v (arc_size r s) k (2 ^ r) l (arc_blocks r s) h.points h.block h.once (arcs r s (record { two_points = h.two; smaller = h.smaller; listed = h.listed }))
+arc_passes : (v k l r s : ℕ) → v ≤ POINTS_MAX → IsArcSize v k l r s → passes_check (Bibd v k l) (arc_blocks r s) ≡ true
+arc_passes v k l r s few h =
+    bibd_passes v (arc_size r s) k (2 ^ r) l (arc_blocks r s) h.points h.block h.once (arcs r s (record { two_points = h.two; smaller = h.smaller; listed = h.listed; points = omega (arith, few, h.points) }))
 
-pub arc_meets : (v k l r s : ℕ) →
+pub arc_meets : (v k l r s : ℕ) → v ≤ POINTS_MAX →
     (k == 2 ^ r && l == 1 && v == arc_size r s && 1 <= r && nat_lt r s && s <= 7) ≡ (k == 2 ^ r && l == 1 && v == arc_size r s && 1 <= r && nat_lt r s && s <= 7 && has_field (2 ^ s) && passes_check (Bibd v k l) (arc_blocks r s))
-arc_meets v k l r s =
+arc_meets v k l r s few =
     also (k == 2 ^ r && l == 1 && v == arc_size r s && 1 <= r && nat_lt r s && s <= 7) (has_field (2 ^ s)) (λ e. arc_listed v k l r s (arc_numbers v k l r s e))
-    ∙ also (k == 2 ^ r && l == 1 && v == arc_size r s && 1 <= r && nat_lt r s && s <= 7 && has_field (2 ^ s)) (passes_check (Bibd v k l) (arc_blocks r s)) (λ e. arc_passes v k l r s (arc_numbers v k l r s (both _ _ e).0))
+    ∙ also (k == 2 ^ r && l == 1 && v == arc_size r s && 1 <= r && nat_lt r s && s <= 7 && has_field (2 ^ s)) (passes_check (Bibd v k l) (arc_blocks r s)) (λ e. arc_passes v k l r s few (arc_numbers v k l r s (both _ _ e).0))
