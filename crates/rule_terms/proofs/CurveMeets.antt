@@ -95,12 +95,13 @@ arc_numbers v k l r s g =
 arc_listed : (v k l r s : ℕ) → IsArcSize v k l r s → has_field (2 ^ s) ≡ true
 arc_listed v k l r s h = (even_field s (omega (arith, h.two, h.smaller)) h.listed).0
 
-arc_passes : (v k l r s : ℕ) → IsArcSize v k l r s → passes_check (Bibd v k l) (arc_blocks r s) ≡ true
-arc_passes v k l r s h =
-    bibd_passes v (arc_size r s) k (2 ^ r) l (arc_blocks r s) h.points h.block h.once (arcs r s (record { two_points = h.two; smaller = h.smaller; listed = h.listed }))
+arc_passes : (v k l r s : ℕ) → v ≤ POINTS_MAX → IsArcSize v k l r s → passes_check (Bibd v k l) (arc_blocks r s) ≡ true
+arc_passes v k l r s few h =
+    bibd_passes v (arc_size r s) k (2 ^ r) l (arc_blocks r s) h.points h.block h.once
+    (arcs r s (record { two_points = h.two; smaller = h.smaller; listed = h.listed; points = omega (arith, few, h.points) }))
 
-pub arc_meets : (v k l r s : ℕ) →
+pub arc_meets : (v k l r s : ℕ) → v ≤ POINTS_MAX →
     (k == 2 ^ r && l == 1 && v == arc_size r s && 1 <= r && nat_lt r s && s <= 7) ≡ (k == 2 ^ r && l == 1 && v == arc_size r s && 1 <= r && nat_lt r s && s <= 7 && has_field (2 ^ s) && passes_check (Bibd v k l) (arc_blocks r s))
-arc_meets v k l r s =
+arc_meets v k l r s few =
     also (k == 2 ^ r && l == 1 && v == arc_size r s && 1 <= r && nat_lt r s && s <= 7) (has_field (2 ^ s)) (λ e. arc_listed v k l r s (arc_numbers v k l r s e))
-    ∙ also (k == 2 ^ r && l == 1 && v == arc_size r s && 1 <= r && nat_lt r s && s <= 7 && has_field (2 ^ s)) (passes_check (Bibd v k l) (arc_blocks r s)) (λ e. arc_passes v k l r s (arc_numbers v k l r s (both _ _ e).0))
+    ∙ also (k == 2 ^ r && l == 1 && v == arc_size r s && 1 <= r && nat_lt r s && s <= 7 && has_field (2 ^ s)) (passes_check (Bibd v k l) (arc_blocks r s)) (λ e. arc_passes v k l r s few (arc_numbers v k l r s (both _ _ e).0))

@@ -63,6 +63,7 @@ fn has_arc_size(v: u16, k: u16, l: u16, r: u16, s: u16) -> bool
 // Whether it has blocks of k of v points, each two in one.
 #[tactic(auto, using(crate::proofs::CurveMeets::arc_meets))]
 pub(crate) fn is_arc(v: u16, k: u16, l: u16, r: u16, s: u16) -> bool
+    requires points { v ≤ POINTS_MAX }
     ensures { result ≡ (k == 2 ^ r && l == 1 && v == 2 ^ (r + s) + 2 ^ r - 2 ^ s && 1 <= r && nat_lt r s && s <= 7 && has_field (2 ^ s) && passes_check (Bibd v k l) (arc_blocks r s)) }
 {
     has_arc_size(v, k, l, r, s)
