@@ -26,6 +26,26 @@ pub(crate) fn plain(rule: Rule) -> Step {
     Step::new(rule, 0, 0, 0, 0)
 }
 
+// So many lines lead to that design.
+pub(crate) fn assert_design(
+    rt: &impl Abort,
+    alloc: Global,
+    tools: &Tools,
+    lines: &Derivation,
+    expected: &Expected,
+) {
+    assert_eq!(rt; lines.len(), expected.lines);
+    assert!(rt; 0 < lines.len());
+    let Ok((question, rows)) = replay(alloc, lines, tools) else {
+        panic!(rt; "no design");
+    };
+    assert_eq!(rt; question, expected.query);
+    assert_eq!(rt; rows.len(), expected.blocks);
+    assert!(rt; 0 < rows.len());
+    assert_eq!(rt; rows.row(0), expected.first);
+    assert_eq!(rt; rows.row(rows.len() - 1), expected.last);
+}
+
 // The verdict of the question is that step, and its derivation leads to that design.
 pub(crate) fn assert_built<L: Ledger>(
     rt: &impl Abort,
@@ -41,16 +61,7 @@ pub(crate) fn assert_built<L: Ledger>(
     };
     assert_eq!(rt; step, expected.step);
     let lines = derive(alloc, &q, &step, tools, &mut PlainAsker, steps)?;
-    assert_eq!(rt; lines.len(), expected.lines);
-    assert!(rt; 0 < lines.len());
-    let Ok((question, rows)) = replay(alloc, &lines, tools) else {
-        panic!(rt; "no design");
-    };
-    assert_eq!(rt; question, q);
-    assert_eq!(rt; rows.len(), expected.blocks);
-    assert!(rt; 0 < rows.len());
-    assert_eq!(rt; rows.row(0), expected.first);
-    assert_eq!(rt; rows.row(rows.len() - 1), expected.last);
+    assert_design(rt, alloc, tools, &lines, expected);
     Ok(())
 }
 

@@ -1,23 +1,15 @@
 // Group divisible and pairwise balanced designs that were computed elsewhere.
 ghost use Rattle.std.specs.Prelude.{◌≡◌, ◌<◌};
 
-use crate::{Derivation, Line, Names, derive, replay};
-use design_base::{Memory, Query, Rule, Step, Verdict, in_bounds};
-use rule_table::{PlainAsker, Steps, Tools, evaluate};
+use crate::bibd_tests::{Expected, assert_built, assert_design, plain};
+use crate::{Derivation, Line, Names};
+use design_base::{Memory, Query, Rule, Step};
+use rule_table::{Steps, Tools};
 use std::alloc::Global;
 use std::marker::Brand;
 use std::process::Abort;
 use std::sync::ledger::{Blank, Ledger};
 use std::test::Fail;
-
-// The design of a question: so many blocks, which begin with `first` and end with `last`.
-#[derive(Clone, Copy)]
-struct Expected<'a> {
-    query: Query,
-    blocks: usize,
-    first: &'a [u16],
-    last: &'a [u16],
-}
 
 // A line: the question, the step, and the numbers of the lines that it names.
 type Row<'a> = (Query, Step, &'a [u64]);
@@ -32,52 +24,6 @@ fn gdd(k: u16, g: u16, u: u16) -> Query {
 
 fn pbd(v: u16, s: u16) -> Query {
     Query::Pbd { v, s }
-}
-
-// The step of a rule without parameters.
-fn plain(rule: Rule) -> Step {
-    Step::new(rule, 0, 0, 0, 0)
-}
-
-// The lines lead to that design.
-fn assert_design(
-    rt: &impl Abort,
-    alloc: Global,
-    tools: &Tools,
-    lines: &Derivation,
-    expected: &Expected,
-) {
-    assert!(rt; 0 < lines.len());
-    let Ok((question, rows)) = replay(alloc, lines, tools) else {
-        panic!(rt; "no design");
-    };
-    assert_eq!(rt; question, expected.query);
-    assert_eq!(rt; rows.len(), expected.blocks);
-    assert!(rt; 0 < rows.len());
-    assert_eq!(rt; rows.row(0), expected.first);
-    assert_eq!(rt; rows.row(rows.len() - 1), expected.last);
-}
-
-// The verdict of the question is that step, and so many lines derive the design.
-fn assert_built<L: Ledger>(
-    rt: &impl Abort,
-    alloc: Global,
-    tools: &Tools,
-    steps: &mut Steps<L>,
-    by: &Step,
-    count: usize,
-    expected: &Expected,
-) -> Result<(), Memory> {
-    let q = expected.query;
-    assert!(rt; in_bounds(&q));
-    let Verdict::Yes(step) = evaluate(&q, tools, steps) else {
-        panic!(rt; "not yes");
-    };
-    assert_eq!(rt; step, *by);
-    let lines = derive(alloc, &q, &step, tools, &mut PlainAsker, steps)?;
-    assert_eq!(rt; lines.len(), count);
-    assert_design(rt, alloc, tools, &lines, expected);
-    Ok(())
 }
 
 // One of each rule that is the first candidate of a question.
@@ -123,11 +69,13 @@ fn assert_group_divisible<L: Ledger>(
     ] {
         let expected = Expected {
             query,
+            step,
+            lines,
             blocks,
             first,
             last,
         };
-        assert_built(rt, alloc, tools, steps, &step, lines, &expected)?;
+        assert_built(rt, alloc, tools, steps, &expected)?;
     }
     Ok(())
 }
@@ -198,11 +146,13 @@ fn assert_pairwise_balanced<L: Ledger>(
     ] {
         let expected = Expected {
             query,
+            step,
+            lines,
             blocks,
             first,
             last,
         };
-        assert_built(rt, alloc, tools, steps, &step, lines, &expected)?;
+        assert_built(rt, alloc, tools, steps, &expected)?;
     }
     Ok(())
 }
@@ -250,6 +200,7 @@ fn derivation_of(alloc: Global, rows: &[Row]) -> Result<Derivation, Memory> {
 #[test]
 fn groups_are_split(rt: HostRuntime) -> Result<(), Fail> {
     let tools = Tools::new(rt.alloc());
+    let split = Step::new(Rule::Split, 3, 0, 0, 0);
     let lines = derivation_of(
         rt.alloc(),
         &[
@@ -257,11 +208,13 @@ fn groups_are_split(rt: HostRuntime) -> Result<(), Fail> {
             (gdd(3, 6, 3), plain(Rule::Td), &[1]),
             (td(3, 2), plain(Rule::Cyclic), &[]),
             (gdd(3, 2, 3), plain(Rule::Td), &[3]),
-            (gdd(3, 2, 9), Step::new(Rule::Split, 3, 0, 0, 0), &[2, 4]),
+            (gdd(3, 2, 9), split, &[2, 4]),
         ],
     )?;
     let expected = Expected {
         query: gdd(3, 2, 9),
+        step: split,
+        lines: 5,
         blocks: 48,
         first: &[0, 2, 4],
         last: &[13, 15, 16],
@@ -274,16 +227,19 @@ fn groups_are_split(rt: HostRuntime) -> Result<(), Fail> {
 #[test]
 fn groups_are_filled_with_a_point(rt: HostRuntime) -> Result<(), Fail> {
     let tools = Tools::new(rt.alloc());
+    let fill = Step::new(Rule::Tdfill1, 3, 4, 0, 0);
     let lines = derivation_of(
         rt.alloc(),
         &[
             (td(4, 3), plain(Rule::Field), &[]),
             (pbd(4, 3), plain(Rule::PbdOne), &[]),
-            (pbd(13, 3), Step::new(Rule::Tdfill1, 3, 4, 0, 0), &[1, 2]),
+            (pbd(13, 3), fill, &[1, 2]),
         ],
     )?;
     let expected = Expected {
         query: pbd(13, 3),
+        step: fill,
+        lines: 3,
         blocks: 13,
         first: &[0, 1, 2, 12],
         last: &[9, 10, 11, 12],
