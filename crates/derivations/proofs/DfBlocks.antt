@@ -11,7 +11,6 @@ use Rattle.design_base.specs.declared.rule.Rule.{Rule}
 use Rattle.design_base.specs.declared.rule.Rule.TheVariants.{Table, Powers, Cosets, Cosets0, Halfcosets}
 use Rattle.difference_sets.proofs.Buildable.{family_design}
 use Rattle.difference_sets.proofs.StepsMeet.{tested_law}
-use Rattle.difference_sets.specs.Conditions.{CanBuildFamily}
 use Rattle.difference_sets.specs.FamilySteps.{family_applies, is_family_step, is_stated, is_tested_step}
 use Rattle.difference_sets.specs.Listed.{families}
 use Rattle.rule_terms.specs.DfTerms.{df_terms}

@@ -1,6 +1,6 @@
 -- The rules of block designs without premises: a candidate has what its construction needs, and the construction gives the design. A new rule
 -- adds a lemma, and a case to `direct_meets`.
-use Rattle.std.proofs.Common.{◌≡◌, ◌≢◌, ℕ, ◌+◌, ◌-◌, ◌*◌, ◌/◌, ◌%◌, ◌^◌, ◌≤◌, ◌==◌, ◌&&◌, not, true, List, [], ◌∷◌, arith, subst, sym}
+use Rattle.std.proofs.Common.{◌≡◌, ◌≢◌, ℕ, ◌+◌, ◌-◌, ◌/◌, ◌%◌, ◌^◌, ◌≤◌, ◌==◌, ◌&&◌, not, true, List, [], arith, subst, sym}
 use Rattle.std.specs.Prelude.{nat_lt}
 use Rattle.std.proofs.lemmas.Bool.{eqb-true, leb-true}
 use Rattle.std.proofs.lemmas.Bool.Decides.{nat_tests}
@@ -35,7 +35,6 @@ use Rattle.gdd_pbd.proofs.Complements.{omit_is_bibd}
 use Rattle.rule_terms.specs.BibdTerms.{bibd_terms}
 use Rattle.rule_terms.specs.Terms.{allows, premises_at}
 use Rattle.rule_terms.proofs.Bounds.{bibd_bounds, both}
-use Rattle.derivations.specs.AllMeet.{AllMeet}
 use Rattle.derivations.specs.BibdBlocks.{CanBuildBibd}
 use Rattle.derivations.specs.DirectBibds.{AreTriples, direct_blocks, CanBuildDirect}
 use Rattle.derivations.proofs.Sizes.{sized, CanOf}

@@ -1,9 +1,9 @@
 -- The rules of block designs with premises: a candidate has what its construction needs, and the construction gives the design. A new rule adds
 -- a lemma, and a case to `made_meets`.
-use Rattle.std.proofs.Common.{◌≡◌, ℕ, ◌+◌, ◌-◌, ◌*◌, ◌/◌, ◌%◌, ◌<◌, ◌≤◌, ◌==◌, ◌&&◌, true, List, [], ◌∷◌, arith, refl, subst, sym}
+use Rattle.std.proofs.Common.{◌≡◌, ℕ, ◌+◌, ◌-◌, ◌*◌, ◌/◌, ◌%◌, ◌<◌, ◌≤◌, ◌==◌, ◌&&◌, true, List, [], ◌∷◌, arith, refl, subst}
 use Rattle.std.specs.Prelude.{nat_lt}
 use Rattle.std.proofs.Math.Nat.{div-add-mod', mul-le-mul_left}
-use Rattle.std.proofs.lemmas.Bool.{eqb-true, leb-true}
+use Rattle.std.proofs.lemmas.Bool.{eqb-true}
 use Rattle.std.proofs.lemmas.Bool.Decides.{nat_tests}
 use Rattle.counting.specs.Division.{divides}
 use Rattle.counting.specs.Search.{◌<=◌}
@@ -31,7 +31,6 @@ use Rattle.gdd_pbd.specs.Conditions.{CanPbdToBibd}
 use Rattle.rule_terms.specs.BibdTerms.{bibd_terms}
 use Rattle.rule_terms.specs.Terms.{allows, premises_at}
 use Rattle.rule_terms.proofs.Bounds.{bibd_bounds, both}
-use Rattle.derivations.specs.AllMeet.{AllMeet}
 use Rattle.derivations.specs.BibdBlocks.{CanBuildBibd}
 use Rattle.derivations.specs.MadeBibds.{made_blocks, CanBuildMade}
 use Rattle.derivations.proofs.Sizes.{sized, CanOf}

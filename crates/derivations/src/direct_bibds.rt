@@ -5,11 +5,11 @@ ghost use Rattle.design_base.specs.Geometries.{point_count};
 ghost use Rattle.spaces.specs.Lines.{affine_lines as affine_lines_of, projective_lines as projective_lines_of};
 ghost use Rattle.derivations.specs.DirectBibds.{direct_blocks, CanBuildDirect, CanListLines};
 
-use plane_curves::{arc, unital};
 use design_base::{Memory, Rule, Step};
 use field_tables::open_field;
 use gdd_pbd::{omit, pairs, whole};
 use incidence::Rows;
+use plane_curves::{arc, unital};
 use spaces::{affine_lines, projective_lines};
 use std::alloc::Global;
 use triple_systems::{bose, double, middle, ordered, skolem};
