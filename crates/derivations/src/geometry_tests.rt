@@ -1,6 +1,6 @@
 // The lines of every projective geometry within the limits, built and counted.
 use crate::building::build;
-use design_base::{Memory, Query, Rule, Step, in_bounds};
+use design_base::{Memory, POINTS_MAX, Query, Rule, Step, in_bounds};
 use rule_table::{Tools, is_candidate};
 use std::alloc::Global;
 use std::process::Abort;
@@ -16,9 +16,9 @@ fn assert_lines(
     d: u16,
     v: u16,
     lines: usize,
-) -> Result<(), Memory>
-    requires { q < 128 }
-{
+) -> Result<(), Memory> {
+    assert!(rt; q < POINTS_MAX);
+    assert!(rt; d < POINTS_MAX);
     let query = Query::Bibd { v, k: q + 1, l: 1 };
     let step = Step::new(Rule::Projective, q, d, 0, 0);
     assert!(rt; in_bounds(&query));
