@@ -1,18 +1,17 @@
 -- The lines of two listed points of a curve are the traces of the plane's lines.
-use Rattle.std.proofs.Common.{Bool, List, [], ◌∷◌, ap, ap₂, arith, cond, get_or, length, map, refl, sym, true, ℕ, ◌+◌, ◌&&◌, ◌<◌, ◌^◌, ◌∙◌, ◌≡◌}
+use Rattle.std.proofs.Common.{Bool, List, [], ◌∷◌, ap, ap₂, arith, cond, get_or, length, map, refl, sym, true, ℕ, ◌&&◌, ◌<◌, ◌^◌, ◌∙◌, ◌≡◌}
 use Rattle.std.proofs.lemmas.Bool.{cond_both}
 use Rattle.std.proofs.lemmas.Grind.{same_number_lists}
 use Rattle.std.proofs.lemmas.List.{get_or-map, length-map}
 use Rattle.std.proofs.lemmas.List.Elements.{All-from_recursion}
 use Rattle.std.specs.Prelude.{All, filter}
-use Rattle.counting.proofs.Counts.{bool_same}
 use Rattle.counting.proofs.Lists.{each_all, each_map}
-use Rattle.counting.proofs.Ranges.{get_or-list_below, join_below-same, length-list_below}
+use Rattle.counting.proofs.Ranges.{get_or-list_below, length-list_below}
 use Rattle.counting.specs.Sums.{list_below, one, sum_below}
 use Rattle.design_base.specs.Blocks.{IsBibd, holds}
 use Rattle.design_base.specs.Canonical.{canonical}
 use Rattle.design_base.specs.Rings.{IsField}
-use Rattle.spaces.specs.Least.{least_lines, line_at, lines_to}
+use Rattle.spaces.specs.Least.{least_lines}
 use Rattle.spaces.specs.Lines.{projective_lines_over, subspace}
 use Rattle.spaces.specs.Points.{points}
 use Rattle.plane_curves.specs.Secants.{IsOver, curve_points, entries, is_on_line, secant, secant_below, vector_at}
@@ -20,7 +19,7 @@ use Rattle.plane_curves.specs.Traces.{points_on, trace}
 use Rattle.plane_curves.specs.declared.vectors.Vector.{Vector}
 use Rattle.plane_curves.proofs.OnLines.{on_line}
 use Rattle.plane_curves.proofs.Planes.{entries_below}
-use Rattle.plane_curves.proofs.SecantLines.{filter-same, is_point, line, listed, vectors_differ}
+use Rattle.plane_curves.proofs.SecantLines.{is_point, line, listed, vectors_differ}
 
 filter-map : {X Y : Type 0} (p : Y → Bool) (f : X → Y) (xs : List X) → filter p (map f xs) ≡ map f (filter (λ x. p (f x)) xs)
 filter-map p f [] = refl

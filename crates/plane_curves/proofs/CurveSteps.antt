@@ -17,7 +17,6 @@ use Rattle.spaces.specs.Points.{lead, points_below}
 use Rattle.plane_curves.proofs.Arcs.{lead_first, on_arc_first}
 use Rattle.plane_curves.specs.Curves.{is_on_arc}
 use Rattle.plane_curves.specs.Secants.{curve_points, entries}
-use Rattle.plane_curves.specs.declared.vectors.Vector.{Vector}
 
 pub power_none : (mul : ℕ → ℕ → ℕ) (g : ℕ) → power mul g 0 ≡ 1
 unfolding power

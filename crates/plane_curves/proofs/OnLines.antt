@@ -1,5 +1,5 @@
 -- The vectors on the line of two points are those with which the determinant of the three is 0.
-use Rattle.std.proofs.Common.{Bool, ap, ap₂, arith, inl, inr, subst, sym, true, ℕ, ◌<◌, ◌^◌, ◌∙◌, ◌≡◌, ◌≢◌}
+use Rattle.std.proofs.Common.{ap, ap₂, arith, inl, inr, subst, sym, true, ℕ, ◌<◌, ◌^◌, ◌∙◌, ◌≡◌, ◌≢◌}
 use Rattle.std.proofs.Math.Nat.{pos_of_ne-zero}
 use Rattle.std.proofs.lemmas.Bool.{cases_eq, eq-eqb, eqb-true}
 use Rattle.counting.proofs.Counts.{bool_same}

@@ -1,29 +1,28 @@
 -- The lines that hold two points of a curve are listed once each, where a line holds k of the points or at most one.
-use Rattle.std.proofs.Common.{Bool, List, [], ◌∷◌, ap, ap₂, arith, cond, false, get_or, inl, inr, length, refl, subst, suc, sym, true, zero, ℕ, ◌&&◌, ◌+◌, ◌<◌, ◌^◌, ◌∙◌, ◌≡◌, ◌≢◌, ◌≤◌, ◌⊎◌}
-use Rattle.std.proofs.Math.Path.{fun_ext}
-use Rattle.std.proofs.lemmas.Bool.{and_from, and_parts, cases_lt, cond_both, false≢true, leb-true, le-leb}
+use Rattle.std.proofs.Common.{Bool, List, [], ◌∷◌, ap, ap₂, arith, cond, get_or, inl, inr, length, refl, subst, sym, true, ℕ, ◌&&◌, ◌<◌, ◌^◌, ◌∙◌, ◌≡◌, ◌≢◌, ◌≤◌}
+use Rattle.std.proofs.lemmas.Bool.{and_from, cond_both, leb-true, le-leb}
 use Rattle.std.proofs.lemmas.List.Elements.{All-from_recursion, recursion_from_All}
 use Rattle.std.specs.Cmp.Lexicographic.{pointwise, same_text}
 use Rattle.std.specs.List.{AllByRecursion, dedup, dedup_from}
-use Rattle.std.specs.Prelude.{All, filter, map, nat_eq, nat_le}
+use Rattle.std.specs.Prelude.{filter, map, nat_eq, nat_le}
 use Rattle.counting.proofs.Counts.{bool_same, one-true}
-use Rattle.counting.proofs.Lists.{all_filter, each-weaker, each_map}
+use Rattle.counting.proofs.Lists.{all_filter, each_map}
 use Rattle.counting.proofs.Ranges.{All-join_below, each_below}
 use Rattle.counting.proofs.Sorting.{each-sort_by}
 use Rattle.counting.specs.Search.{◌<=◌}
 use Rattle.counting.specs.Sorting.{sort_by}
 use Rattle.counting.specs.Sums.{join_below, list_below, one, sum_below}
-use Rattle.design_base.proofs.Canonical.{Differs, IsPointSet, differs_below, holds-sort_by}
+use Rattle.design_base.proofs.Canonical.{differs_below, holds-sort_by}
 use Rattle.design_base.proofs.Cover.{cover-cons}
 use Rattle.design_base.proofs.Points.{differs_filter}
 use Rattle.design_base.proofs.Sorted.{lex_le-order}
 use Rattle.design_base.specs.Blocks.{IsBibd, cover, holds}
 use Rattle.design_base.specs.Canonical.{canonical, lex_le}
 use Rattle.design_base.specs.Rings.{IsField}
-use Rattle.spaces.proofs.EachLine.{HoldsEachLine, IsLineOf, IsSomeLine, among-join_below, among-list_below, each_line_once}
+use Rattle.spaces.proofs.EachLine.{HoldsEachLine, IsSomeLine, among-join_below, among-list_below, each_line_once}
 use Rattle.spaces.proofs.Leads.{is_lead, points_apart}
 use Rattle.spaces.proofs.LinearSpaces.{IsLinearSpace}
-use Rattle.spaces.proofs.Once.{Among, among-dedup, among-sort_by, among_each, among_map, each-dedup, within_self}
+use Rattle.spaces.proofs.Once.{Among, among-dedup, among-sort_by, among_map, each-dedup}
 use Rattle.spaces.proofs.Span.{first_in, last_in, same_span}
 use Rattle.spaces.specs.Least.{least_lines}
 use Rattle.spaces.specs.Lines.{each_once, points_in, projective_lines_over, subspace}

@@ -1,17 +1,15 @@
 -- How the lines of two vectors are listed.
 use Rattle.std.proofs.Common.{Bool, List, [], ap, ap₂, arith, cond, false, inl, inr, length, refl, sym, true, ℕ, ◌++◌, ◌+◌, ◌<◌, ◌==◌, ◌∙◌, ◌∷◌, ◌≡◌, ◌≢◌, ◌≤◌}
-use Rattle.std.proofs.lemmas.Bool.{cases_Bool, cases_eq, cases_lt, eq-eqb, false≢true, le-leb, leb-true, ne_eqb, or_cases, or_left, or_right, eqb-true}
+use Rattle.std.proofs.lemmas.Bool.{cases_Bool, cases_eq, cases_lt, eq-eqb, false≢true, le-leb, leb-true, or_cases, or_left, or_right, eqb-true}
 use Rattle.std.proofs.lemmas.List.{append-nil, append_assoc}
 use Rattle.std.proofs.lemmas.List.Elements.{All-from_recursion, filter-append, recursion_from_All}
 use Rattle.std.proofs.lemmas.List.Sums.{AllPass-from_list_all, count_by-le-length, length-filter, list_all-from_AllPass}
-use Rattle.std.specs.List.{AllByRecursion, list_all}
 use Rattle.std.specs.Prelude.{filter, nat_le, ◌||◌}
 use Rattle.counting.proofs.Counts.{join_below_more, join_below_none}
 use Rattle.counting.proofs.Lists.{all_filter}
 use Rattle.counting.proofs.Ranges.{each_below, length-list_below}
 use Rattle.counting.specs.Sums.{list_below}
 use Rattle.design_base.proofs.Points.{each_at}
-use Rattle.design_base.specs.Blocks.{holds}
 use Rattle.spaces.specs.Least.{are_least}
 use Rattle.spaces.proofs.LeastSteps.{least_lines-more, least_lines-none, lines_to-left, lines_to-none, lines_to-taken}
 use Rattle.plane_curves.proofs.Traces.{holds_filtered}

@@ -1,6 +1,5 @@
 -- The points of a plane at which a Hermitian form is 0: a line holds one of them or p + 1.
 use Rattle.std.proofs.Common.{Bool, List, ap, ap₂, arith, cond, get_or, inl, inr, length, refl, suc, sym, true, ℕ, ◌%◌, ◌&&◌, ◌*◌, ◌+◌, ◌/◌, ◌<◌, ◌==◌, ◌^◌, ◌∙◌, ◌≡◌, ◌≢◌}
-use Rattle.std.proofs.Math.Nat.{mod-lt}
 use Rattle.std.proofs.lemmas.Bool.{cases_lt, eq-eqb, eqb-true, ne_eqb}
 use Rattle.std.specs.List.{sum_by}
 use Rattle.counting.proofs.Counts.{bool_same, one-true, sum_below-same, sum_below-suc}
@@ -11,19 +10,18 @@ use Rattle.design_base.specs.Canonical.{canonical}
 use Rattle.design_base.specs.Rings.{IsCommutativeRing, IsField}
 use Rattle.field_tables.specs.Powers.{power}
 use Rattle.counting.proofs.Totals.{sum_by-list_below}
-use Rattle.field_tables.proofs.Numbers.{number-digits}
 use Rattle.spaces.proofs.Leads.{is_lead, points_apart}
 use Rattle.spaces.proofs.Projective as projective
 use Rattle.spaces.proofs.Projective.{ArePlaced, AreCoefficients, pair_below, pair_differs, same_points}
 use Rattle.spaces.proofs.Space.{IsSpace, zero-scale}
-use Rattle.spaces.proofs.Span.{not_zero, one_mix}
+use Rattle.spaces.proofs.Span.{not_zero}
 use Rattle.spaces.proofs.VectorSpaces.{IsVectorSpace, combination-multiple, combination_below}
 use Rattle.spaces.specs.Lines.{points_in, projective_lines_over, subspace}
 use Rattle.spaces.specs.Points.{lead, points}
 use Rattle.spaces.specs.Vectors.{combination, multiple, vector_sum}
 use Rattle.plane_curves.specs.Curves.{is_power_zero}
 use Rattle.plane_curves.specs.Traces.{points_on, trace}
-use Rattle.plane_curves.proofs.Arcs.{entry_first, entry_rest, sum_set}
+use Rattle.plane_curves.proofs.Arcs.{sum_set}
 use Rattle.plane_curves.proofs.Hermitian.{IsConjugation, IsIndependent, hermitian, line_zeros, mixed, multiple_zero, multiple_zero-from}
 use Rattle.plane_curves.specs.Secants.{entries as entries_of}
 use Rattle.plane_curves.specs.declared.vectors.Vector.{Vector}

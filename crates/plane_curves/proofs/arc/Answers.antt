@@ -1,9 +1,8 @@
-use Rattle.std.proofs.Common.{Some, ap, arith, false, length, subst, sym, true, ◌*◌, ◌+◌, ◌^◌, ◌∙◌, ◌≡◌, ◌≤◌}
+use Rattle.std.proofs.Common.{ap, arith, length, subst, sym, ◌^◌, ◌∙◌, ◌≡◌}
 use Rattle.std.proofs.lemmas.Bool.{false≢true}
 use Rattle.std.specs.Prelude.{All, IfSome, is_some}
 use Rattle.design_base.specs.Blocks.{IsBibd}
 use Rattle.plane_curves.specs.Conditions.{arc_size}
-use Rattle.design_base.specs.declared.limits.TheConstants.{POINTS_MAX}
 use Rattle.design_base.specs.Fields.{field_product, field_sum, has_field}
 use Rattle.plane_curves.specs.Curves.{is_on_arc, least_rootless}
 use Rattle.plane_curves.specs.Secants.{IsOver, curve_points}

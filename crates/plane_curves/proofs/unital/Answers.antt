@@ -1,8 +1,7 @@
-use Rattle.std.proofs.Common.{Some, ap, arith, false, length, subst, sym, true, ◌*◌, ◌+◌, ◌^◌, ◌∙◌, ◌≡◌, ◌≤◌}
+use Rattle.std.proofs.Common.{ap, arith, length, subst, sym, ◌*◌, ◌+◌, ◌^◌, ◌∙◌, ◌≡◌}
 use Rattle.std.proofs.lemmas.Bool.{false≢true}
 use Rattle.std.specs.Prelude.{All, IfSome, is_some}
 use Rattle.design_base.specs.Blocks.{IsBibd}
-use Rattle.design_base.specs.declared.limits.TheConstants.{POINTS_MAX}
 use Rattle.plane_curves.specs.Secants.{IsOver}
 use Rattle.plane_curves.proofs.CurveDesigns.{square_listed, square_small, unital_few, unital_listed, unital_over, unitals}
 use Rattle.plane_curves.proofs.unital.Goals as goal

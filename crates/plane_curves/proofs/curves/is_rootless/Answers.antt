@@ -1,4 +1,4 @@
-use Rattle.std.proofs.Common.{ap, ap₂, arith, false, not, sym, true, ◌-◌, ◌==◌, ◌∙◌, ◌≡◌}
+use Rattle.std.proofs.Common.{ap, ap₂, arith, not, sym, ◌-◌, ◌==◌, ◌∙◌, ◌≡◌}
 use Rattle.std.proofs.lemmas.Bool.{eq-eqb, ne_eqb}
 use Rattle.counting.proofs.Upward.{each_upward_here, each_upward_later, upward-none}
 use Rattle.counting.specs.Search.{each_passes}

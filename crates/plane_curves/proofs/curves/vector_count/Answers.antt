@@ -1,4 +1,4 @@
-use Rattle.std.proofs.Common.{ap, arith, subst, sym, ◌<◌, ◌^◌, ◌∙◌}
+use Rattle.std.proofs.Common.{subst, sym, ◌<◌, ◌^◌, ◌∙◌}
 use Rattle.plane_curves.proofs.CurveSteps.{cube_fits}
 use Rattle.plane_curves.proofs.curves.vector_count.Goals as goal
 

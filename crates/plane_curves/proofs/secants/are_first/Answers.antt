@@ -1,4 +1,4 @@
-use Rattle.std.proofs.Common.{arith, false, inl, inr, subst, sym, true, ◌∙◌, ◌≡◌}
+use Rattle.std.proofs.Common.{arith, false, inl, inr, subst, sym, ◌∙◌, ◌≡◌}
 use Rattle.std.proofs.lemmas.Bool.{cases_eq}
 use Rattle.design_base.specs.Fields.{field_product, field_sum}
 use Rattle.plane_curves.proofs.SecantSteps.{first_from, on_line, third_on}

@@ -1,4 +1,4 @@
-use Rattle.std.proofs.Common.{ap, arith, length, false, sym, true, ◌++◌, ◌∷◌, [], ◌∙◌, ◌≡◌}
+use Rattle.std.proofs.Common.{ap, arith, length, ◌∙◌, ◌≡◌}
 use Rattle.design_base.specs.Fields.{field_product, field_sum}
 use Rattle.plane_curves.proofs.SecantSteps.{on_line, secant-left, secant-taken, length-secant}
 use Rattle.plane_curves.specs.Secants.{is_on_line, secant, secant_below, vector_at}
