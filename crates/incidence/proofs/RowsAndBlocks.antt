@@ -2,12 +2,12 @@
 use Rattle.std.proofs.Common.{List, [], ap, ap₂, arith, get_or, length, map, refl, slice_set, subst, sym, take, ℕ, ◌%◌, ◌*◌, ◌++◌, ◌+◌, ◌<◌, ◌∙◌, ◌∷◌, ◌≡◌, ◌≤◌}
 use Rattle.std.proofs.Math.Seq.{take-length}
 use Rattle.std.proofs.lemmas.List.{append-nil, append_assoc, get_or-map, length-map, map-append, take_more, take_more_set}
-use Rattle.std.proofs.lemmas.List.Elements.{All-map, All-tail, All-weaker, recursion_from_All}
+use Rattle.std.proofs.lemmas.List.Elements.{All-map, All-weaker, recursion_from_All}
 use Rattle.std.specs.Prelude.{All}
 use Rattle.counting.proofs.Counts.{join_below_more}
-use Rattle.counting.proofs.Ranges.{length-list_below}
+use Rattle.counting.proofs.Ranges.{get_or-list_below, length-list_below}
 use Rattle.counting.specs.Sums.{join_below, list_below}
-use Rattle.design_base.proofs.Groups.{oa_from_td}
+use Rattle.design_base.proofs.Groups.{blocks_of_rows_of_blocks, oa_from_td}
 use Rattle.design_base.specs.Arrays.{IsOa, IsRow, blocks_of_rows, place, row_block, rows_of_blocks}
 use Rattle.design_base.specs.Blocks.{IsBlock, IsTd}
 use Rattle.incidence.proofs.Sizes.{size_of-append, size_of-cons, size_of-uniform}
@@ -114,9 +114,26 @@ row_room_next n now all block rest is = omega (
 )
 
 -- ---- the blocks of a transversal design
+-- the j-th point is one of group j
+abbrev pub HasPlaces : ℕ → List ℕ → Type 0
+HasPlaces n block = (j : ℕ) → j < length block → get_or block j 0 ≡ j * n + get_or block j 0 % n
+
 module _ (k n : ℕ) (B : List (List ℕ)) (td : IsTd B k n) where
   pub sizes_of_td : All (λ block. length block ≡ k) B
   sizes_of_td = All-weaker (IsBlock (n * k) (λ size. size ≡ k)) (λ block. length block ≡ k) (λ block s. s.size) B td.blocks
+
+  pub points_of_td : 1 ≤ n → All (HasPlaces n) B
+  unfolding blocks_of_rows rows_of_blocks row_block place
+  points_of_td some m d l j h =
+      let sizes : length (get_or B m d) ≡ k = sizes_of_td m d l in
+      let row : length (map (map (λ x. x % n)) B) ≡ length B = length-map B (map (λ x. x % n)) in
+      let same : get_or B m d ≡ list_below k (λ j. j * n + get_or (map (λ x. x % n) (get_or B m d)) j 0) =
+      ap (λ C. get_or C m d) (sym (blocks_of_rows_of_blocks k n B (omega arith) td))
+      ∙ get_or-map (λ row. list_below k (λ j. j * n + get_or row j 0)) (map (map (λ x. x % n)) B) m (map (λ x. x % n) d) d (omega (arith, l, row))
+      ∙ ap (λ row. list_below k (λ j. j * n + get_or row j 0)) (get_or-map (map (λ x. x % n)) B m d (map (λ x. x % n) d) l) in
+      ap (λ block. get_or block j 0) same
+      ∙ get_or-list_below k (λ j. j * n + get_or (map (λ x. x % n) (get_or B m d)) j 0) j 0 (omega arith)
+      ∙ ap (λ a. j * n + a) (get_or-map (λ x. x % n) (get_or B m d) j 0 0 h)
 
   pub length_of_td : 2 ≤ k → 1 ≤ n → length B ≡ n * n
   unfolding rows_of_blocks

@@ -1,5 +1,5 @@
 //! Rows of symbols and blocks: orthogonal arrays and transversal designs are one thing in two spellings.
-ghost use Rattle.std.specs.Prelude.{◌≡◌, ◌+◌, ◌<◌, ◌≤◌, ◌++◌, [], ◌∷◌, All, IfOk, OnErr, OnOk, length};
+ghost use Rattle.std.specs.Prelude.{◌≡◌, ◌+◌, ◌*◌, ◌%◌, ◌<◌, ◌≤◌, ◌++◌, [], ◌∷◌, All, IfOk, OnErr, OnOk, length, slice_index, ℕ};
 ghost use Rattle.design_base.specs.Arrays.{IsOa, IsRow, blocks_of_rows as blocks_of, rows_of_blocks};
 ghost use Rattle.design_base.specs.Blocks.{IsTd};
 ghost use Rattle.incidence.specs.Packed.{size_of};
@@ -47,16 +47,17 @@ pub fn blocks_of_rows(alloc: Global, k: u16, n: u16, rows: &Rows) -> Result<Rows
     Ok(list)
 }
 
-// Appends the row of a block: its entry in column j is the symbol of the block's point of group j.
+// Appends the row of a block with one point of each group, in the order of the groups: its entry in column j is the symbol
+// of the block's point of group j.
 fn push_row_of(rows: &mut Rows, n: u16, block: &[u16]) -> Result<(), Memory>
     requires groups { length block.now ≤ TD_K_MAX }
-    requires points { 1 ≤ n }
+    requires points { (j : ℕ) → j < length block.now → slice_index block.now j ≡ j * n + slice_index block.now j % n }
     requires room { size_of rows.old + length block.now + 1 < PACKED_MAX }
     ensures { OnOk result (rows.new ≡ rows.old ++ rows_of_blocks n (block.now ∷ [])) }
 {
     let mut row = [0; TD_K_MAX as usize];
     for (j, point) in block.iter().enumerate() {
-        row[j] = point % n;
+        row[j] = point - j as u16 * n;
     }
     rows.push_row(&row[..block.len()])?;
     Ok(())

@@ -1,5 +1,7 @@
 // Rows that are borrowed, put in lexicographic order, and packed again.
-ghost use Rattle.std.specs.Prelude.{◌≡◌, ◌<◌, IfOk, IsPermutation, IsSorted, map};
+ghost use Rattle.std.specs.Prelude.{◌≡◌, ◌<◌, IfOk, IsPermutation, IsSorted, IsTrue, map};
+ghost use Rattle.counting.specs.Sorting.{sort_by};
+ghost use Rattle.design_base.specs.Canonical.{lex_le};
 ghost use Rattle.std.specs.Cmp.Lexicographic.{slice_cmp};
 ghost use Rattle.std.specs.Ordering.{nat_cmp};
 ghost use Rattle.incidence.specs.Packed.{size_of};
@@ -14,6 +16,19 @@ fn row_list(alloc: Global, rows: &Rows) -> Result<Vec<&[u16]>, Memory>
 {
     let list = rows.iter().collect(alloc)?;
     Ok(list)
+}
+
+// Whether the rows stand in lexicographic order.
+#[tactic(auto, using(crate::proofs::Ordered::ascends_more))]
+pub fn are_in_order(rows: &Rows) -> bool
+    ensures { IsTrue result → IsSorted (slice_cmp nat_cmp) rows.now }
+{
+    for i in 1..rows.len() {
+        if rows.row(i).cmp(rows.row(i - 1)).is_lt() {
+            return false;
+        }
+    }
+    true
 }
 
 // The rows in lexicographic order, each borrowed.

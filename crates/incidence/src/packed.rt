@@ -6,7 +6,7 @@ ghost use Rattle.design_base.specs.Canonical.{canonical as canonical_form, lex_l
 ghost use Rattle.incidence.specs.Packed.{AreEnds, rows_from, size_of};
 
 use crate::iter::Iter;
-use crate::order::{in_lexicographic_order, pack};
+use crate::order::{are_in_order, in_lexicographic_order, pack};
 use design_base::{Memory, PACKED_MAX};
 use std::alloc::Global;
 use std::marker::Model;
@@ -159,10 +159,13 @@ impl Rows {
 
     /// The rows in lexicographic order; what is there twice stays there twice. After `Memory`, which comes only for want of
     /// memory, the rows are given up.
-    #[tactic(auto, using(crate::proofs::Sizes::size_of_permuted, crate::proofs::Packing::size_of_rows, design_base::proofs::Sorted::sorted_from_sort))]
+    #[tactic(auto, using(crate::proofs::Ordered::sorted_stays, crate::proofs::Sizes::size_of_permuted, crate::proofs::Packing::size_of_rows, design_base::proofs::Sorted::sorted_from_sort))]
     pub fn in_order(self) -> Result<Rows, Memory>
         ensures { IfOk result (λ rows. rows ≡ sort_by lex_le self) }
     {
+        if are_in_order(&self) {
+            return Ok(self);
+        }
         let order = in_lexicographic_order(self.alloc, &self)?;
         pack(self.alloc, &order, self.numbers.len())
     }

@@ -1,4 +1,4 @@
-use Rattle.std.proofs.Common.{ap, arith, refl, ◌++◌, ◌%◌, ◌∙◌}
+use Rattle.std.proofs.Common.{ap, arith, ◌++◌, ◌%◌, ◌∙◌}
 use Rattle.std.proofs.lemmas.List.{length-set}
 use Rattle.incidence.proofs.RowsAndBlocks.{image_next, row_when_done}
 use Rattle.incidence.proofs.arrays.push_row_of.Goals as goal
@@ -7,7 +7,7 @@ pub loop-j-preserved : goal.loop-j-preserved
 loop-j-preserved c = record {
   size = length-set c.loop-j.row c.loop-j.j _ ∙ c.loop-j.invariant.size;
   symbols = image_next (λ x. x % c.args.n) c.args.block.now c.loop-j.row c.loop-j.j _
-      (omega (arith, c.loop-j.invariant.size, c.loop-j-test.true, c.requires.groups)) (omega (arith, c.loop-j-test.true)) c.loop-j.invariant.symbols refl;
+      (omega (arith, c.loop-j.invariant.size, c.loop-j-test.true, c.requires.groups)) (omega (arith, c.loop-j-test.true)) c.loop-j.invariant.symbols (omega (arith, c.requires.points c.loop-j.j (omega (arith, c.loop-j-test.true))));
 }
 
 pub returns : goal.returns
