@@ -41,7 +41,13 @@ order_below q d h pos =
     let more : q ^ 1 ≤ q ^ d = pow-le-pow_right (let e : 0 < q = omega arith in e) pos in
     omega (arith, more, pow-suc q 0, ap (λ t. t * q) (pow-zero q))
 
+pub entries_below : (q n : ℕ) → 1 < q → n ≤ q ^ n
+entries_below q zero h = omega arith
+entries_below q (suc n) h =
+    let more : 2 * q ^ n ≤ q * q ^ n = mul-le-mul_right (q ^ n) h in
+    omega (arith, more, pow-suc q n, entries_below q n h, one-le-pow n q (let pos : 0 < q = omega arith in pos))
+
 pub order_above : (q : ℕ) → has_field q ≡ true → 1 < q
 order_above q listed = (listed_field q listed).ring.one_below
 
-pub ruleset bounds = (dimension_small, order_small, vectors_fit, some_vectors, order_below, order_above)
+pub ruleset bounds = (dimension_small, order_small, vectors_fit, some_vectors, order_below, order_above, entries_below)

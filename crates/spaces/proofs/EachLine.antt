@@ -56,7 +56,7 @@ same_set a b d e same = same_once nat_le nat_le-order (sort_by nat_le a) (sort_b
 abbrev HoldsTwo : ℕ → List ℕ → Type 0
 HoldsTwo v b = (x : ℕ) × (y : ℕ) × (x < y) × (y < v) × (holds x b ≡ true) × (holds y b ≡ true)
 
-covered_by : (c : List ℕ) (B : List (List ℕ)) (x y : ℕ) → Among c B → holds x c ≡ true → holds y c ≡ true → 0 < cover B x y
+pub covered_by : (c : List ℕ) (B : List (List ℕ)) (x y : ℕ) → Among c B → holds x c ≡ true → holds y c ≡ true → 0 < cover B x y
 covered_by c [] x y a h g = absurd a
 covered_by c (b ∷ B) x y (inl e) h g = omega (arith, cover-cons b B x y, one-true (holds x b && holds y b) (subst (λ c. (holds x c && holds y c) ≡ true) e (and_from _ _ h g)))
 covered_by c (b ∷ B) x y (inr a) h g = omega (arith, cover-cons b B x y, covered_by c B x y a h g)

@@ -66,6 +66,9 @@ module _ (q : ℕ) (add mul : ℕ → ℕ → ℕ) (field : IsField q add mul) (
         ∙ straight c.0 t x w lx (coefficients.sum_one t m))
         ∙ same_places.each (sum x (scale t w)) (s.sums_below x (scale t w))) ∙ ap (λ k. list_below k (λ t. sum x (scale t w))) coefficients.count
 
+    pub affine_space : IsLinearSpace (q ^ n) q affine_pair
+    affine_space = affine.linear q (q ^ n) add mul sum scale vectors affine_pair is_pair
+
     pub affine_design : IsBibd (canonical (least_lines affine_pair (q ^ n))) (q ^ n) q 1
     affine_design = design (q ^ n) q affine_pair (affine.linear q (q ^ n) add mul sum scale vectors affine_pair is_pair)
 
@@ -129,6 +132,9 @@ module _ (q : ℕ) (add mul : ℕ → ℕ → ℕ) (field : IsField q add mul) (
     unfolding subspace combination
     plane_holds x y z h = holds_join_below-from q z (λ c. list_below q (λ k. combination add mul q n c x k y)) h.0 h.2.first
         (holds_below-from q z (λ k. combination add mul q n h.0 x k y) h.1 h.2.second h.2.made)
+
+    pub projective_space : IsLinearSpace N (suc q) (combined_line add mul q n P places W)
+    projective_space = subst (IsLinearSpace N (suc q)) (sym pair_is) linear
 
     pub projective_design : IsBibd (canonical (least_lines (combined_line add mul q n P places W) N)) N (suc q) 1
     projective_design = subst (λ f. IsBibd (canonical (least_lines f N)) N (suc q) 1) (sym pair_is) (design N (suc q) projective_pair linear)

@@ -7,7 +7,7 @@ use Rattle.std.proofs.lemmas.List.{length-append}
 use Rattle.std.proofs.lemmas.Nat.{div-mul-add, mod-mul-add}
 use Rattle.std.specs.List.{AllByRecursion}
 use Rattle.std.specs.Prelude.{Contains, filter}
-use Rattle.counting.proofs.Counts.{count_equal, one-false, one-true, sum_below-add, sum_below-const, sum_below-mul, sum_below-none, sum_below-same, sum_below-suc}
+use Rattle.counting.proofs.Counts.{count_equal, one-false, one-true, sum_below-add, sum_below-const, sum_below-mul, sum_below-same}
 use Rattle.counting.proofs.Lists.{all_filter}
 use Rattle.counting.proofs.Ranges.{each_below}
 use Rattle.counting.specs.Sums.{join_below, list_below, one, sum_below}

@@ -11,8 +11,12 @@ pub mod Geometries
 pub mod LeadSteps
 pub mod PointSteps
 pub mod LeastSteps
+pub mod Rising
+pub mod MetPairs
+pub mod Marking
 pub mod CoefficientSteps
 pub mod Bounds
+pub mod EntrySteps
 pub mod ListedLines
 pub mod LineDesigns
 pub mod OwnForm

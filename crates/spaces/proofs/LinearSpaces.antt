@@ -12,13 +12,7 @@ use Rattle.design_base.proofs.Cover.{cover-join_below, cover-none, cover-single,
 use Rattle.design_base.specs.Blocks.{IsBibd, cover, holds}
 use Rattle.design_base.specs.Canonical.{canonical}
 use Rattle.spaces.specs.Least.{are_least, least_lines, line_at, lines_to}
-
--- lines of k points on v points: two points have one line, which is that of any two of its points
-pub record IsLinearSpace (v k : ℕ) (line : ℕ → ℕ → List ℕ) : Type 0 where
-  pub set : (x y : ℕ) → x < y → y < v → IsPointSet v (λ s. s ≡ k) (line x y)
-  pub first : (x y : ℕ) → x < y → y < v → holds x (line x y) ≡ true
-  pub second : (x y : ℕ) → x < y → y < v → holds y (line x y) ≡ true
-  pub joins : (x y z w u : ℕ) → x < y → y < v → z < w → w < v → holds z (line x y) ≡ true → holds w (line x y) ≡ true → holds u (line x y) ≡ holds u (line z w)
+pub use Rattle.spaces.specs.LinearSpaces.{IsLinearSpace}
 
 -- the least number below n that passes a test
 pub least_below : (p : ℕ → Bool) (n : ℕ) → ((i : ℕ) → i < n → p i ≡ true → ⊥) ⊎ ((m : ℕ) × (m < n) × (p m ≡ true) × ((i : ℕ) → i < m → p i ≡ true → ⊥))
@@ -84,7 +78,7 @@ two_least set u w l e f =
     )
 
 -- a set has one such pair
-same_least : (a b x y : ℕ) (set : ℕ → Bool) → AreLeast a b set → AreLeast x y set → (x ≡ a) × (y ≡ b)
+pub same_least : (a b x y : ℕ) (set : ℕ → Bool) → AreLeast a b set → AreLeast x y set → (x ≡ a) × (y ≡ b)
 same_least a b x y set s t =
     let first : x ≡ a = elim (s.others x t.least) [
       | inl e ↦ e
@@ -103,7 +97,7 @@ are_least_from x y b s = all_from (λ z. z == x || nat_le y z) b (λ z h. elim (
   | inr l ↦ or_right _ _ (le-leb y z l)
 ])
 
-are_least_tells : (x y : ℕ) (b : List ℕ) → are_least x y b ≡ true → (z : ℕ) → holds z b ≡ true → (z ≡ x) ⊎ (y ≤ z)
+pub are_least_tells : (x y : ℕ) (b : List ℕ) → are_least x y b ≡ true → (z : ℕ) → holds z b ≡ true → (z ≡ x) ⊎ (y ≤ z)
 are_least_tells x y b e z h = elim (or_cases (z == x) (nat_le y z) (all_at (λ z. z == x || nat_le y z) z b e h)) [
   | inl f ↦ inl (eqb-true z x f)
   | inr f ↦ inr (leb-true y z f)

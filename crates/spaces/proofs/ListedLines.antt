@@ -5,10 +5,11 @@ use Rattle.design_base.specs.Canonical.{canonical}
 use Rattle.design_base.specs.Fields.{field_product, field_sum}
 use Rattle.field_tables.proofs.Listed.{listed_field}
 use Rattle.spaces.proofs.Bounds.{order_above}
-use Rattle.spaces.proofs.Geometries.{affine_blocks, affine_design, projective_blocks, projective_design}
+use Rattle.spaces.proofs.Geometries.{affine_blocks, affine_design, affine_space, projective_blocks, projective_design, projective_space}
 use Rattle.spaces.proofs.Leads.{length-points}
 use Rattle.spaces.specs.GeometryLines.{IsAffine, IsProjective, line_in}
 use Rattle.spaces.specs.Least.{least_lines}
+use Rattle.spaces.specs.LinearSpaces.{IsLinearSpace}
 use Rattle.spaces.specs.Lines.{affine_lines, projective_lines}
 use Rattle.design_base.specs.Geometries.{point_count}
 use Rattle.spaces.specs.Points.{points}
@@ -28,6 +29,17 @@ module _ (g : Geometry) (q d : ℕ) (h : IsAffine q d g) where
   unfolding over
   affine_over = ap (λ q. over g q g.entries g.points.items (length g.points.items)) h.field ∙ ap₂ (λ n v. over g q n g.points.items v) h.entries h.points.count
 
+  pub affine_is_space : IsLinearSpace (length g.points.items) (length g.coefficients.items) (line_in g)
+  affine_is_space =
+      let space : IsLinearSpace (q ^ d) q (combined_line (field_sum q) (field_product q) q d g.points.items g.places.items g.coefficients.items) =
+      affine_space q (field_sum q) (field_product q) (listed_field q h.listed) d g.points.items g.places.items g.coefficients.items h.points h.places h.coefficients in
+      subst (λ v. IsLinearSpace v (length g.coefficients.items) (line_in g)) (sym h.points.count) (subst (λ k. IsLinearSpace (q ^ d) k (line_in g)) (sym h.coefficients.count)
+      (subst (IsLinearSpace (q ^ d) q) (sym affine_lines_over) space))
+    where
+      affine_lines_over : line_in g ≡ combined_line (field_sum q) (field_product q) q d g.points.items g.places.items g.coefficients.items
+      affine_lines_over = ap (λ q. combined_line (field_sum q) (field_product q) q g.entries g.points.items g.places.items g.coefficients.items) h.field
+          ∙ ap (λ n. combined_line (field_sum q) (field_product q) q n g.points.items g.places.items g.coefficients.items) h.entries
+
   pub affine_listed : all_lines g ≡ affine_lines q d
   unfolding over affine_lines
   affine_listed = affine_over ∙ affine_blocks q (field_sum q) (field_product q) (listed_field q h.listed) d g.points.items g.places.items g.coefficients.items h.points h.places h.coefficients
@@ -41,6 +53,18 @@ module _ (g : Geometry) (q d : ℕ) (h : IsProjective q (d + 1) g) where
   projective_over : all_lines g ≡ over g q (d + 1) (points q (d + 1)) (length (points q (d + 1)))
   unfolding over
   projective_over = ap (λ q. over g q g.entries g.points.items (length g.points.items)) h.field ∙ ap₂ (λ n P. over g q n P (length P)) h.entries h.points
+
+  pub projective_is_space : IsLinearSpace (length g.points.items) (length g.coefficients.items) (line_in g)
+  projective_is_space =
+      let space : IsLinearSpace (length (points q (d + 1))) (suc q) (combined_line (field_sum q) (field_product q) q (d + 1) (points q (d + 1)) g.places.items g.coefficients.items) =
+      projective_space q (field_sum q) (field_product q) (listed_field q h.listed) (d + 1) g.places.items g.coefficients.items h.places h.coefficients in
+      let k : length g.coefficients.items ≡ suc q = omega (arith, h.coefficients.count) in
+      subst (λ P. IsLinearSpace (length P) (length g.coefficients.items) (line_in g)) (sym h.points) (subst (λ k. IsLinearSpace (length (points q (d + 1))) k (line_in g)) (sym k)
+      (subst (IsLinearSpace (length (points q (d + 1))) (suc q)) (sym lines_over) space))
+    where
+      lines_over : line_in g ≡ combined_line (field_sum q) (field_product q) q (d + 1) (points q (d + 1)) g.places.items g.coefficients.items
+      lines_over = ap (λ q. combined_line (field_sum q) (field_product q) q g.entries g.points.items g.places.items g.coefficients.items) h.field
+          ∙ ap₂ (λ n P. combined_line (field_sum q) (field_product q) q n P g.places.items g.coefficients.items) h.entries h.points
 
   pub projective_listed : all_lines g ≡ projective_lines q d
   unfolding over projective_lines

@@ -1,8 +1,7 @@
 -- The lines of a geometry are listed in canonical form, which is its own canonical form.
-use Rattle.std.proofs.Common.{List, [], ◌∷◌, ap, ap₂, refl, sym, ℕ, ◌∙◌, ◌≡◌}
-use Rattle.std.specs.List.{AllByRecursion, dedup}
-use Rattle.std.specs.Cmp.Lexicographic.{pointwise}
-use Rattle.std.specs.Prelude.{map, nat_eq, nat_le, sum_by}
+use Rattle.std.proofs.Common.{List, [], ◌∷◌, ap, ap₂, refl, ℕ, ◌∙◌, ◌≡◌}
+use Rattle.std.specs.List.{AllByRecursion}
+use Rattle.std.specs.Prelude.{map, nat_le}
 use Rattle.counting.proofs.Sorting.{each-sort_by, nat_le-order, ordered-sort_by, same_ordered, sum_by-sort_by}
 use Rattle.counting.specs.Sorting.{Ordered, sort_by}
 use Rattle.design_base.proofs.Sorted.{lex_le-order}

@@ -1,9 +1,16 @@
 -- The affine and projective geometries as they are kept, and their lines.
 use Rattle.std.specs.Prelude.{ℕ, ◌^◌, ◌≡◌, List, true}
+use Rattle.std.proofs.Common.{get_or}
+use Rattle.design_base.specs.Digits.{digits}
 use Rattle.design_base.specs.Fields.{field_product, field_sum, has_field}
 use Rattle.spaces.specs.Points.{AreNumbers, ArePlaces, points}
 use Rattle.spaces.specs.Coefficients.{AreAffine, AreProjective, combined_line, combined_point}
+use Rattle.spaces.specs.Vectors.{multiple}
 use Rattle.spaces.specs.declared.geometry.Geometry.{Geometry}
+
+-- the entries of t times a point
+abbrev pub entries_in : Geometry → ℕ → ℕ → List ℕ
+entries_in g t i = digits g.field.now g.entries (multiple (field_product g.field.now) g.field.now g.entries t (get_or g.points.items i 0))
 
 abbrev pub point_in : Geometry → ℕ → ℕ → ℕ × ℕ → ℕ
 point_in g = combined_point (field_sum g.field.now) (field_product g.field.now) g.field.now g.entries g.points.items g.places.items

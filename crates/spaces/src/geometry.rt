@@ -1,11 +1,16 @@
 // Geometries of vectors, in which two points have one line.
-ghost use Rattle.std.specs.Prelude.{◌≡◌, ◌^◌, ◌<◌, IfOk, length};
+ghost use Rattle.std.specs.Prelude.{◌≡◌, ◌^◌, ◌<◌, ◌≤◌, IfOk, length};
+ghost use Rattle.design_base.specs.declared.limits.TheConstants.{POINTS_MAX};
 ghost use Rattle.spaces.specs.Points.{AreNumbers};
 ghost use Rattle.spaces.specs.Coefficients.{AreElements};
+ghost use Rattle.spaces.specs.Vectors.{multiples_below};
+ghost use Rattle.design_base.specs.Fields.{field_product};
 
 use crate::coefficients::{affine_coefficients, projective_coefficients};
+use crate::line_list::LineList;
+use crate::multiples::multiples;
 use crate::points::{places, points};
-use crate::vectors::combination;
+use crate::vectors::sum_of_entries;
 use design_base::{Memory, PACKED_MAX, POINTS_MAX};
 use field_tables::Field;
 use incidence::Rows;
@@ -21,12 +26,16 @@ pub struct Geometry<'a> {
     entries: u16,
     // The vector of each point.
     points: Vec<u16>,
+    // The entries of each multiple of each point, multiple by multiple.
+    multiples: Rows,
     // The point of each vector.
     places: Vec<u16>,
     // The coefficients.
     coefficients: Vec<(u16, u16)>,
     ghost fits: { field.now ^ entries < 2 ^ 16 },
+    ghost few: { length points.items ≤ POINTS_MAX },
     ghost placed: { length places.items ≡ field.now ^ entries },
+    ghost multiplied: { multiples ≡ multiples_below (field_product field.now) field.now entries points.items field.now },
     ghost elements: { AreElements field.now coefficients.items },
 }
 
@@ -48,15 +57,20 @@ impl<'a> Geometry<'a> {
     ghost use Rattle.design_base.specs.Geometries.{point_count};
 
     // The affine geometry of dimension `d`.
+    #[tactic(auto, using(crate::proofs::Bounds::bounds))]
     pub fn affine(alloc: Global, field: &'a Field, d: u16) -> Result<Self, Memory>
-        requires { field.now ^ d < 2 ^ 16 }
+        requires dimension { 1 ≤ d }
+        requires in_bounds { field.now ^ d ≤ POINTS_MAX }
         ensures { IfOk result (IsAffine field.now d) }
     {
         let vectors = field.order().pow(u32::from(d));
+        let points = numbers(alloc, vectors)?;
+        let multiples = multiples(alloc, field, d, &points)?;
         Ok(Geometry {
             field,
             entries: d,
-            points: numbers(alloc, vectors)?,
+            points,
+            multiples,
             places: numbers(alloc, vectors)?,
             coefficients: affine_coefficients(alloc, field)?,
         })
@@ -73,12 +87,14 @@ impl<'a> Geometry<'a> {
         let n = d + 1;
         let vectors = q.pow(u32::from(n));
         let points = points(alloc, q, n, vectors)?;
+        let multiples = multiples(alloc, field, n, &points)?;
         let places = places(alloc, field, n, &points, vectors)?;
         let coefficients = projective_coefficients(alloc, field)?;
         Ok(Geometry {
             field,
             entries: n,
             points,
+            multiples,
             places,
             coefficients,
         })
@@ -86,11 +102,24 @@ impl<'a> Geometry<'a> {
 }
 
 impl Geometry<'_> {
-    ghost use Rattle.std.specs.Prelude.{◌≡◌, ◌+◌, ◌*◌, ◌^◌, ◌<◌, ◌≤◌, ◌++◌, IfOk, OnOk, length};
+    ghost use Rattle.std.specs.Prelude.{◌≡◌, ◌+◌, ◌*◌, ◌^◌, ◌<◌, ◌≤◌, ◌++◌, All, IfOk, OnOk, length};
     ghost use Rattle.design_base.specs.Canonical.{canonical};
     ghost use Rattle.incidence.specs.Packed.{size_of};
-    ghost use Rattle.spaces.specs.GeometryLines.{line_in, point_in};
-    ghost use Rattle.spaces.specs.Least.{are_least, least_lines, lines_to};
+    ghost use Rattle.spaces.specs.GeometryLines.{entries_in, line_in, point_in};
+    ghost use Rattle.spaces.specs.Least.{least_lines, rising_lines};
+    ghost use Rattle.spaces.specs.LinearSpaces.{IsLinearSpace};
+
+    // The entries of t * x.
+    fn multiple(&self, t: u16, x: u16) -> &[u16]
+        requires factor { t < self.now.field.now }
+        requires point { x < length self.now.points.items }
+        ensures entries { result.now ≡ entries_in self.now t x }
+        ensures elements { All (λ a. a < self.now.field.now) result.now }
+        ensures size { length result.now ≡ self.now.entries }
+    {
+        let place = t as usize * self.points.len() + x as usize;
+        self.multiples.row(place)
+    }
 
     // The point of the vector a * x + b * y.
     fn point(&self, x: u16, y: u16, coefficients: (u16, u16)) -> u16
@@ -100,23 +129,8 @@ impl Geometry<'_> {
         ensures { result ≡ point_in self.now x y coefficients }
     {
         let (a, b) = coefficients;
-        let x = self.points[x as usize];
-        let y = self.points[y as usize];
-        self.places[combination(self.field, self.entries, a, x, b, y) as usize]
-    }
-
-    // Whether x and y are the two least points of their line.
-    #[tactic(auto, unfolding(crate::specs::Coefficients::combined_line))]
-    fn are_least(&self, x: u16, y: u16) -> bool
-        requires first { x < length self.now.points.items }
-        requires second { y < length self.now.points.items }
-        ensures { result ≡ are_least x y (line_in self.now x y) }
-    {
-        let mut line = self
-            .coefficients
-            .iter()
-            .map(|coefficients| self.point(x, y, *coefficients));
-        line.all(|z| z == x || z >= y)
+        let vector = sum_of_entries(self.field, self.multiple(a, x), self.multiple(b, y));
+        self.places[vector as usize]
     }
 
     // The line of x and y.
@@ -134,33 +148,38 @@ impl Geometry<'_> {
         Ok(line)
     }
 
-    // Appends the lines of y and a smaller point whose two least points they are.
-    #[tactic(auto, using(crate::proofs::LeastSteps::least_steps))]
-    fn push_lines_to(&self, alloc: Global, rows: &mut Rows, y: u16) -> Result<(), Memory>
-        requires point { y < length self.now.points.items }
-        requires room { size_of rows.old + y * (length self.now.coefficients.items + 1) < PACKED_MAX }
-        ensures ok { OnOk result (rows.new ≡ rows.old ++ lines_to (line_in self.now) y y) }
-        ensures size { OnOk result (size_of rows.new ≤ size_of rows.old + y * (length self.now.coefficients.items + 1)) }
+    // Appends the lines of x and a later point whose two least points they are: those that no line holds so far.
+    #[tactic(auto, using(crate::proofs::Rising::rising_steps))]
+    fn push_lines_from(&self, alloc: Global, lines: &mut LineList, x: u16) -> Result<(), Memory>
+        requires point { x < length self.now.points.items }
+        requires points { length self.now.points.items ≤ POINTS_MAX }
+        requires space { IsLinearSpace (length self.now.points.items) (length self.now.coefficients.items) (line_in self.now) }
+        requires lines { lines.old ≡ rising_lines (line_in self.now) (length self.now.points.items) x }
+        requires room { size_of lines.old + length self.now.points.items * (length self.now.coefficients.items + 1) < PACKED_MAX }
+        ensures ok { OnOk result (lines.new ≡ rising_lines (line_in self.now) (length self.now.points.items) (x + 1)) }
+        ensures size { OnOk result (size_of lines.new ≤ size_of lines.old + length self.now.points.items * (length self.now.coefficients.items + 1)) }
     {
-        for x in 0..y {
-            if self.are_least(x, y) {
-                rows.push_row(&self.line(alloc, x, y)?)?;
+        for y in x + 1..self.points.len() as u16 {
+            if !lines.joins(x, y) {
+                lines.push(&self.line(alloc, x, y)?)?;
             }
         }
         Ok(())
     }
 
-    // All lines, each once, in canonical form.
-    #[tactic(auto, using(crate::proofs::LeastSteps::least_steps))]
+    // All lines, each once, in canonical form. Two points have one line.
+    #[tactic(auto, using(crate::proofs::Rising::rising_steps))]
     pub fn lines(&self, alloc: Global) -> Result<Rows, Memory>
         requires points { length self.now.points.items ≤ POINTS_MAX }
         requires coefficients { length self.now.coefficients.items ≤ POINTS_MAX + 1 }
+        requires space { IsLinearSpace (length self.now.points.items) (length self.now.coefficients.items) (line_in self.now) }
         ensures { IfOk result (λ rows. rows ≡ canonical (least_lines (line_in self.now) (length self.now.points.items))) }
     {
-        let mut rows = Rows::new(alloc);
-        for y in 0..self.points.len() as u16 {
-            self.push_lines_to(alloc, &mut rows, y)?;
+        let mut lines = LineList::new(alloc)?;
+        for x in 0..self.points.len() as u16 {
+            self.push_lines_from(alloc, &mut lines, x)?;
         }
-        rows.canonical()
+        let rows = lines.canonical()?;
+        Ok(rows)
     }
 }

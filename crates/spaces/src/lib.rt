@@ -8,6 +8,8 @@ ghost use Rattle.design_base.specs.Geometries.{point_count};
 
 mod coefficients;
 mod geometry;
+mod line_list;
+mod multiples;
 mod points;
 mod vectors;
 

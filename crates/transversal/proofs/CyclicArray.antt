@@ -1,12 +1,13 @@
 -- The array of the rows x, y, x + y modulo n.
-use Rattle.std.proofs.Common.{[], ap, arith, get_or, length, refl, subst, suc, sym, zero, ℕ, ◌%◌, ◌+◌, ◌<◌, ◌∙◌, ◌∷◌, ◌≡◌, ◌≤◌}
+use Rattle.std.proofs.Common.{[], ap, ap₂, arith, get_or, length, refl, suc, sym, take, zero, ℕ, ◌%◌, ◌*◌, ◌+◌, ◌<◌, ◌∙◌, ◌∷◌, ◌≡◌, ◌≤◌}
 use Rattle.std.proofs.Math.Nat.{mod-lt}
 use Rattle.std.proofs.lemmas.List.{get_or-take, length-take-le}
 use Rattle.counting.proofs.Residues.{add_cancels, add_solves}
 use Rattle.design_base.proofs.Solutions.{IsSolvable}
-use Rattle.design_base.specs.Arrays.{IsOa, IsRow}
+use Rattle.design_base.specs.Arrays.{IsOa, blocks_of_rows, place, row_block}
+use Rattle.counting.specs.Sums.{join_below}
 use Rattle.transversal.specs.Constructions.{cyclic_row, cyclic_rows}
-use Rattle.transversal.proofs.Square.{row_of_entries, square_is_oa}
+use Rattle.transversal.proofs.Square.{square_is_oa}
 
 -- the entry in column j
 pub sum_entry : ℕ → ℕ → ℕ → ℕ → ℕ
@@ -58,10 +59,14 @@ module _ (k n x y : ℕ) (most : k ≤ 3) where
   unfolding cyclic_row
   entry j l = get_or-take k (x ∷ y ∷ (x + y) % n ∷ []) j 0 l ∙ three n x y j (omega arith)
 
-pub row_of_sums : (k n x y : ℕ) → k ≤ 3 → x < n → y < n → IsRow k n (cyclic_row k n x y)
-row_of_sums k n x y most lx ly =
-    let s : IsSolvable 3 n (sum_entry n) = solvable n (omega arith) in
-    row_of_entries k n (cyclic_row k n x y) (size k n x y most) (λ j l. subst (λ a. a < n) (sym (entry k n x y most j l)) (s.small x y j lx ly (omega arith)))
+-- the block of a row, cut to k columns
+pub block_of_sums : (k n x y : ℕ) → k ≤ 3 → blocks_of_rows k n (cyclic_row k n x y ∷ []) ≡ take k (x ∷ (n + y) ∷ (2 * n + (x + y) % n) ∷ []) ∷ []
+unfolding cyclic_row blocks_of_rows row_block place join_below
+block_of_sums zero n x y most = refl
+block_of_sums (suc zero) n x y most = ap (λ a. (a ∷ []) ∷ []) (omega arith)
+block_of_sums (suc (suc zero)) n x y most = ap₂ (λ a b. (a ∷ b ∷ []) ∷ []) (omega arith) (omega arith)
+block_of_sums (suc (suc (suc zero))) n x y most = ap₂ (λ a b. (a ∷ b ∷ (2 * n + (x + y) % n) ∷ []) ∷ []) (omega arith) (omega arith)
+block_of_sums (suc (suc (suc (suc k)))) n x y most = absurd (omega arith)
 
 pub cyclic_is_oa : (k n : ℕ) → 2 ≤ k → k ≤ 3 → 0 < n → IsOa (cyclic_rows k n) k n
 unfolding cyclic_rows

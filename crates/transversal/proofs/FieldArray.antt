@@ -1,13 +1,15 @@
 -- The arrays of a field: column 0 is x, and column j + 1 is y + j * x.
-use Rattle.std.proofs.Common.{List, ap, ap₂, arith, get_or, refl, subst, suc, sym, take, true, zero, ℕ, ◌+◌, ◌-◌, ◌<◌, ◌∙◌, ◌∷◌, ◌≡◌, ◌≤◌}
+use Rattle.std.proofs.Common.{List, ap, ap₂, arith, get_or, length, refl, slice_index, slice_set, subst, suc, sym, take, true, zero, ℕ, ◌*◌, ◌+◌, ◌-◌, ◌<◌, ◌∙◌, ◌∷◌, ◌≡◌, ◌≤◌}
+use Rattle.std.proofs.lemmas.List.{get_or-take}
 use Rattle.counting.proofs.Ranges.{get_or-list_below, length-list_below}
-use Rattle.counting.specs.Sums.{list_below}
-use Rattle.design_base.specs.Arrays.{IsOa, IsRow}
+use Rattle.counting.specs.Sums.{join_below, list_below}
+use Rattle.design_base.specs.Arrays.{IsOa, row_block}
 use Rattle.design_base.specs.Fields.{field_product, field_sum, has_field}
 use Rattle.design_base.specs.Rings.{IsField}
 use Rattle.field_tables.proofs.AnyField.{add_cancel, difference, distribute_right, divide, mul_cancel}
 use Rattle.field_tables.proofs.Listed.{listed_field}
-use Rattle.transversal.proofs.Square.{row_of_entries, square_is_oa}
+use Rattle.transversal.proofs.Buffers.{written_next}
+use Rattle.transversal.proofs.Square.{square_is_oa}
 use Rattle.transversal.specs.Constructions.{field_row, field_rows, rows_below}
 
 module _ (q : ℕ) (add mul : ℕ → ℕ → ℕ) (field : IsField q add mul) where
@@ -85,16 +87,30 @@ pub field_is_oa : (k q : ℕ) → IsField q (field_sum q) (field_product q) → 
 unfolding field_rows field_row
 field_is_oa k q field two most = lines_are_oa q (field_sum q) (field_product q) field k two most
 
-row_of_lines : (k q x y : ℕ) → IsField q (field_sum q) (field_product q) → 1 ≤ k → k ≤ q + 1 → x < q → IsRow k q (field_row k q x y)
+-- ---- the block of x and y, written over the front of a buffer
+-- a product that is kept
+kept_product : (q x j : ℕ) (products : List ℕ) → j < q → take q products ≡ list_below q (λ j. field_product q j x) → get_or products j 0 ≡ field_product q j x
+kept_product q x j products l is = sym (get_or-take q products j 0 l) ∙ ap (λ xs. get_or xs j 0) is ∙ get_or-list_below q (λ j. field_product q j x) j 0 l
+
+pub kept_below : (q x j : ℕ) (products : List ℕ) → has_field q ≡ true → j < q → take q products ≡ list_below q (λ j. field_product q j x) → get_or products j 0 < q
+kept_below q x j products listed l is = subst (λ z. z < q) (sym (kept_product q x j products l is)) ((listed_field q listed).ring.products_below j x)
+
+-- an entry of the row
+slope_entry : (k q x y j : ℕ) → j < k - 1 → get_or (field_row k q x y) (j + 1) 0 ≡ field_sum q y (field_product q j x)
 unfolding field_row
-row_of_lines k q x y field some most lx = row_of_entries k q (x ∷ list_below (k - 1) (λ j. field_sum q y (field_product q j x)))
-    (omega (arith, length-list_below (k - 1) (λ j. field_sum q y (field_product q j x))))
-    (λ j l. subst (λ a. a < q) (sym (entry q (field_sum q) (field_product q) field k x y j l)) (line-below q (field_sum q) (field_product q) field x y j lx))
+slope_entry k q x y j l = ap (λ i. get_or (x ∷ list_below (k - 1) (λ j. field_sum q y (field_product q j x))) i 0) after ∙ get_or-list_below (k - 1) (λ j. field_sum q y (field_product q j x)) j 0 l
+  where
+    after : j + 1 ≡ suc j
+    after = omega arith
 
--- the first k entries of a buffer, where they are x and the values y + j * x
-pub front_of_lines : (k q x y j : ℕ) (row : List ℕ) → 1 ≤ k → j ≤ k - 1 → k - 1 ≤ j → take (j + 1) row ≡ field_row (j + 1) q x y → take k row ≡ field_row k q x y
-front_of_lines k q x y j row some low high is = let done : j + 1 ≡ k = omega arith in subst (λ k. take k row ≡ field_row k q x y) done is
+pub line_block_first : (k q x y : ℕ) (block : List ℕ) → 0 < length block → take 1 (slice_set block 0 x) ≡ row_block 1 q (slice_index (field_row k q x y))
+unfolding field_row row_block join_below
+line_block_first k q x y block l = ap (λ z. take 1 (slice_set block 0 z)) same ∙ written_next q 0 x (field_row k q x y) block l refl refl
+  where
+    same : x ≡ 0 * q + x
+    same = omega arith
 
-pub row_from_front : (k q n x y j : ℕ) (row : List ℕ) → has_field q ≡ true → n ≡ q → 1 ≤ k → k ≤ q + 1 → x < q → j ≤ k - 1 → k - 1 ≤ j → take (j + 1) row ≡ field_row (j + 1) q x y → IsRow k n (take k row)
-row_from_front k q n x y j row listed same some most lx low high is =
-    subst (λ n. IsRow k n (take k row)) (sym same) (subst (IsRow k q) (sym (front_of_lines k q x y j row some low high is)) (row_of_lines k q x y (listed_field q listed) some most lx))
+pub line_block_next : (k q x y j z : ℕ) (block products : List ℕ) → j < k - 1 → k ≤ q + 1 → j + 1 < length block → take q products ≡ list_below q (λ j. field_product q j x) → z ≡ field_sum q y (get_or products j 0) →
+    take (j + 1) block ≡ row_block (j + 1) q (slice_index (field_row k q x y)) → take (j + 1 + 1) (slice_set block (j + 1) ((j + 1) * q + z)) ≡ row_block (j + 1 + 1) q (slice_index (field_row k q x y))
+line_block_next k q x y j z block products within most l kept is front = written_next q (j + 1) z (field_row k q x y) block l front
+    (is ∙ ap (field_sum q y) (kept_product q x j products (omega arith) kept) ∙ sym (slope_entry k q x y j within))

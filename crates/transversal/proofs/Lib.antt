@@ -1,4 +1,5 @@
 pub mod Square
+pub mod Buffers
 pub mod CyclicArray
 pub mod FieldArray
 pub mod ProductArray

@@ -1,5 +1,5 @@
 -- Products of orthogonal arrays.
-use Rattle.std.proofs.Common.{List, ap, ap₂, arith, get_or, map, subst, sym, take, ℕ, ◌%◌, ◌&&◌, ◌*◌, ◌+◌, ◌/◌, ◌<◌, ◌==◌, ◌∙◌, ◌≡◌, ◌≤◌}
+use Rattle.std.proofs.Common.{List, ap, ap₂, arith, get_or, length, map, slice_index, slice_set, sym, take, ℕ, ◌%◌, ◌&&◌, ◌*◌, ◌+◌, ◌/◌, ◌<◌, ◌==◌, ◌∙◌, ◌≡◌}
 use Rattle.std.proofs.Math.Nat.{mod-lt}
 use Rattle.std.proofs.lemmas.List.{length-map}
 use Rattle.std.proofs.lemmas.List.Concat.{length-flat_map}
@@ -10,7 +10,8 @@ use Rattle.counting.proofs.Lists.{All-flat_map_of, All-map_of, one-and, sum_by-a
 use Rattle.counting.proofs.Ranges.{get_or-list_below, length-list_below}
 use Rattle.counting.specs.Sums.{one}
 use Rattle.design_base.proofs.Places.{place_test}
-use Rattle.design_base.specs.Arrays.{IsOa, IsRow, agree}
+use Rattle.design_base.specs.Arrays.{IsOa, IsRow, agree, row_block}
+use Rattle.transversal.proofs.Buffers.{written_next}
 use Rattle.transversal.proofs.Square.{row_of_entries}
 use Rattle.transversal.specs.Constructions.{product_row, product_rows, products_of}
 
@@ -55,9 +56,7 @@ module _ (k a b : ℕ) (R S : List (List ℕ)) (first : IsOa R k a) (second : Is
       test : ℕ → ℕ → ℕ → ℕ → List ℕ → ℕ
       test i j p q r = one ((get_or r i 0 == p) && (get_or r j 0 == q))
 
--- the first k entries of a buffer, where they are those of a product
-pub row_from_front : (k a b : ℕ) (r s row : List ℕ) (j : ℕ) → IsRow k a r → IsRow k b s → j ≤ k → k ≤ j → take j row ≡ product_row j b r s → IsRow k (a * b) (take k row)
-row_from_front k a b r s row j u v low high entries =
-    let done : j ≡ k = omega arith in
-    let is : take k row ≡ product_row k b r s = subst (λ j. take j row ≡ product_row j b r s) done entries in
-    subst (IsRow k (a * b)) (sym is) (row_of_product k b r s a u v)
+-- a point more of the block of a product
+pub product_written_next : (k n b j : ℕ) (r s block : List ℕ) → j < k → j < length block → take j block ≡ row_block j n (slice_index (product_row k b r s)) →
+    take (j + 1) (slice_set block j (j * n + (get_or r j 0 * b + get_or s j 0))) ≡ row_block (j + 1) n (slice_index (product_row k b r s))
+product_written_next k n b j r s block within l front = written_next n j (get_or r j 0 * b + get_or s j 0) (product_row k b r s) block l front (sym (entry k b r s j within))

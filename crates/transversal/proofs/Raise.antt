@@ -1,5 +1,5 @@
 -- Rows of an array with c added to each symbol.
-use Rattle.std.proofs.Common.{List, ap₂, arith, get_or, map, sym, ℕ, ◌&&◌, ◌+◌, ◌<◌, ◌==◌, ◌∙◌, ◌≡◌, ◌≤◌, ◌⊎◌}
+use Rattle.std.proofs.Common.{List, [], ap₂, arith, get_or, length, map, slice_index, slice_set, sym, take, ℕ, ◌&&◌, ◌*◌, ◌+◌, ◌<◌, ◌==◌, ◌∙◌, ◌∷◌, ◌≡◌, ◌≤◌, ◌⊎◌}
 use Rattle.std.proofs.lemmas.Bool.Decides.{nat_tests}
 use Rattle.std.proofs.lemmas.List.{get_or-map, length-map}
 use Rattle.std.specs.List.{sum_by}
@@ -8,7 +8,8 @@ use Rattle.counting.proofs.Counts.{bool_same, both_equal, one-false}
 use Rattle.counting.proofs.Lists.{All-map_of, sum_by-agree, sum_by-map, sum_by-none}
 use Rattle.counting.specs.Sums.{one}
 use Rattle.design_base.proofs.Rows.{agree-is}
-use Rattle.design_base.specs.Arrays.{IsRow, agree}
+use Rattle.design_base.specs.Arrays.{IsRow, agree, blocks_of_rows, row_block}
+use Rattle.transversal.proofs.Buffers.{written_next, written_whole}
 use Rattle.transversal.specs.Constructions.{raised}
 
 add_test : (c x p : ℕ) → (c + x == c + p) ≡ (x == p)
@@ -43,3 +44,12 @@ module _ (k h c : ℕ) (R : List (List ℕ)) (rows : All (IsRow k h) R) where
       let x : get_or r i 0 < h = v.below i 0 (omega (arith, v.size)) in
       let y : get_or r j 0 < h = v.below j 0 (omega (arith, v.size)) in
       omega (arith, f.0, f.1)))
+
+-- ---- the block of a raised row, written over the front of a buffer
+pub raised_written_next : (n c j : ℕ) (row block : List ℕ) → j < length block → j < length row → take j block ≡ row_block j n (slice_index (map (λ x. c + x) row)) →
+    take (j + 1) (slice_set block j (j * n + (c + get_or row j 0))) ≡ row_block (j + 1) n (slice_index (map (λ x. c + x) row))
+raised_written_next n c j row block l h front = written_next n j (c + get_or row j 0) (map (λ x. c + x) row) block l front (sym (get_or-map (λ x. c + x) row j 0 0 h))
+
+pub raised_written : (k n c j : ℕ) (row block : List ℕ) → j ≤ k → k ≤ j → take j block ≡ row_block j n (slice_index (map (λ x. c + x) row)) → take k block ∷ [] ≡ blocks_of_rows k n (raised c (row ∷ []))
+unfolding raised
+raised_written k n c j row block low high front = written_whole k n j (map (λ x. c + x) row) block low high front

@@ -1,45 +1,12 @@
 -- The steps of the loops that write rows and blocks: what there is before the first, and what one more adds.
 use Rattle.std.proofs.Common.{List, [], ap, ap₂, arith, get_or, length, map, refl, slice_set, subst, sym, take, ℕ, ◌*◌, ◌++◌, ◌+◌, ◌-◌, ◌<◌, ◌∙◌, ◌∷◌, ◌≡◌, ◌≤◌}
 use Rattle.std.proofs.lemmas.List.{append-nil, append_assoc, length-map, map-append, take_all, take_more_set}
-use Rattle.std.proofs.lemmas.List.Elements.{All-from_recursion}
-use Rattle.std.specs.Prelude.{All}
 use Rattle.counting.proofs.Counts.{join_below_more, join_below_none}
 use Rattle.counting.specs.Sums.{join_below, list_below}
-use Rattle.design_base.specs.Arrays.{IsRow, blocks_of_rows}
-use Rattle.design_base.specs.Fields.{field_product, field_sum}
-use Rattle.transversal.proofs.Raise.{raised_rows}
-use Rattle.transversal.specs.Constructions.{base_rows, field_row, parker_rows, product_row, product_rows, products_of, quadruple, raised, rows_below, translate, translated, translates_below}
+use Rattle.design_base.specs.Arrays.{blocks_of_rows}
+use Rattle.transversal.specs.Constructions.{base_rows, parker_rows, product_row, product_rows, products_of, quadruple, raised, rows_below, translate, translated, translates_below}
 use Rattle.incidence.proofs.RowsAndBlocks.{blocks_of_no_rows, blocks_of_rows_append, blocks_of_rows_next, front_next, image_next}
 use Rattle.transversal.proofs.Translates.{translated_zero}
-
--- the entries of a product
-pub product_row_none : (b : ℕ) (r s : List ℕ) → product_row 0 b r s ≡ []
-unfolding product_row join_below
-product_row_none b r s = refl
-
-pub product_row_next : (b : ℕ) (r s row : List ℕ) (j x y : ℕ) → j < length row → take j row ≡ product_row j b r s → x ≡ get_or r j 0 → y ≡ get_or s j 0 → take (j + 1) (slice_set row j (x * b + y)) ≡ product_row (j + 1) b r s
-unfolding product_row
-product_row_next b r s row j x y l e p q = front_next (λ j. get_or r j 0 * b + get_or s j 0) row j (x * b + y) l e (ap₂ (λ x y. x * b + y) p q)
-
--- x, and then the entries of the lines
-pub field_row_none : (k q x y : ℕ) → k ≤ 1 → field_row k q x y ≡ x ∷ []
-unfolding field_row join_below
-field_row_none k q x y few = let none : k - 1 ≡ 0 = omega arith in ap (λ n. x ∷ list_below n (λ j. field_sum q y (field_product q j x))) none
-
-pub field_row_next : (q x y : ℕ) (row : List ℕ) (j z : ℕ) → j + 1 < length row → take (j + 1) row ≡ field_row (j + 1) q x y → z ≡ field_sum q y (field_product q j x) → take (j + 1 + 1) (slice_set row (j + 1) z) ≡ field_row (j + 1 + 1) q x y
-unfolding field_row
-field_row_next q x y row j z l e is =
-    take_more_set row (j + 1) z l
-    ∙ ap₂ (λ front z. front ++ z ∷ []) e is
-    ∙ ap (λ n. x ∷ list_below n (λ j. field_sum q y (field_product q j x)) ++ field_sum q y (field_product q j x) ∷ []) less
-    ∙ ap (λ xs. x ∷ xs) (sym (join_below_more j (λ j. field_sum q y (field_product q j x) ∷ [])))
-    ∙ ap (λ n. x ∷ list_below n (λ j. field_sum q y (field_product q j x))) more
-  where
-    less : j + 1 - 1 ≡ j
-    less = omega arith
-
-    more : j + 1 ≡ j + 1 + 1 - 1
-    more = omega arith
 
 -- ---- the blocks of rows
 -- a row more
@@ -96,24 +63,6 @@ translates_below_none n R = join_below_none _
 pub blocks_of_translates_more : (k m n h : ℕ) (R : List (List ℕ)) → blocks_of_rows k m (translates_below n (h + 1) R) ≡ blocks_of_rows k m (translates_below n h R) ++ blocks_of_rows k m (translate n h R)
 unfolding translates_below
 blocks_of_translates_more k m n h R = ap (blocks_of_rows k m) (join_below_more h _) ∙ blocks_of_rows_append k m _ (translate n h R)
-
--- a row with c added to each symbol
-pub raised_row_none : (c : ℕ) → raised c ([] ∷ []) ≡ [] ∷ []
-unfolding raised
-raised_row_none c = refl
-
-pub raised_row_next : (c : ℕ) (row new : List ℕ) (j x : ℕ) → j < length new → j < length row → take j new ∷ [] ≡ raised c (take j row ∷ []) → x ≡ c + get_or row j 0 →
-    take (j + 1) (slice_set new j x) ∷ [] ≡ raised c (take (j + 1) row ∷ [])
-unfolding raised
-raised_row_next c row new j x l h e is = ap (λ xs. xs ∷ []) (image_next (λ x. c + x) row new j x l h (ap (λ R. get_or R 0 []) e) is)
-
-pub raised_from_front : (k n h c j : ℕ) (row entries : List ℕ) → j ≤ k → k ≤ j → c + h ≤ n → IsRow k h row → take j entries ∷ [] ≡ raised c (take j row ∷ []) → IsRow k n (take k entries)
-raised_from_front k n h c j row entries low high fits v is =
-    let done : j ≡ k = omega arith in
-    let all : take k entries ∷ [] ≡ raised c (take k row ∷ []) = subst (λ j. take j entries ∷ [] ≡ raised c (take j row ∷ [])) done is in
-    let whole : take k row ≡ row = take_all k row (omega (arith, v.size)) in
-    let rows : All (IsRow k h) (take k row ∷ []) = All-from_recursion (IsRow k h) (take k row ∷ []) (subst (IsRow k h) (sym whole) v, tt) in
-    subst (All (IsRow k n)) (sym all) (raised_rows k h c (take k row ∷ []) rows n fits) 0 [] (omega arith)
 
 -- the raised rows of a row and of further ones
 pub raised_no_rows : (c : ℕ) → raised c [] ≡ []

@@ -1,11 +1,11 @@
 // Lists of blocks that grow.
-ghost use Rattle.std.specs.Prelude.{◌≡◌, ◌+◌, ◌*◌, ◌<◌, ◌≤◌, ◌++◌, [], ◌∷◌, All, IfOk, OnOk, length};
+ghost use Rattle.std.specs.Prelude.{◌≡◌, ◌+◌, ◌*◌, ◌<◌, ◌≤◌, ◌++◌, [], ◌∷◌, All, IfOk, OnOk, length, take};
 ghost use Rattle.design_base.specs.Arrays.{IsRow, blocks_of_rows};
 ghost use Rattle.incidence.specs.Packed.{size_of};
 ghost use Rattle.transversal.specs.Constructions.{raised};
 
 use design_base::{Memory, PACKED_MAX, TD_K_MAX, TD_N_MAX};
-use incidence::{Rows, push_block};
+use incidence::Rows;
 use std::alloc::Global;
 
 /// An empty list with room for the `n * n` blocks of a transversal design with `k` groups of `n` points.
@@ -22,28 +22,20 @@ pub fn with_room(alloc: Global, k: u16, n: u16) -> Result<Rows, Memory>
     Ok(rows)
 }
 
-// Appends the block of a row of `k` symbols below `h`, with `c` added to each.
-#[tactic(auto, using(crate::proofs::Steps::raised_row_none))]
-fn push_raised_row(
-    rows: &mut Rows,
-    k: u16,
-    n: u16,
-    c: u16,
-    h: u16,
-    row: &[u16],
-) -> Result<(), Memory>
+// Writes the block of a row of `k` symbols below `h`, with `c` added to each, over the front of `block`.
+#[tactic(auto, using(incidence::proofs::RowsAndBlocks::row_block_none))]
+fn write_raised(block: &mut [u16], k: u16, n: u16, c: u16, h: u16, row: &[u16])
     requires groups { k ≤ TD_K_MAX }
     requires points { n ≤ TD_N_MAX }
     requires raised_points { c + h ≤ n }
     requires row { IsRow k h row.now }
-    requires room { size_of rows.old + k + 1 < PACKED_MAX }
-    ensures { OnOk result (rows.new ≡ rows.old ++ blocks_of_rows k n (raised c (row.now ∷ []))) }
+    requires room { k ≤ length block.old }
+    ensures len { length block.new ≡ length block.old }
+    ensures front { take k block.new ∷ [] ≡ blocks_of_rows k n (raised c (row.now ∷ [])) }
 {
-    let mut entries = [0; TD_K_MAX as usize];
     for j in 0..k as usize {
-        entries[j] = c + row[j];
+        block[j] = j as u16 * n + (c + row[j]);
     }
-    push_block(rows, k, n, &entries[..k as usize])
 }
 
 /// Appends the blocks of rows of `k` symbols below `h`, with `c` added to each symbol.
@@ -66,8 +58,10 @@ pub fn push_raised(
     requires room { size_of rows.old + (k + 1) * length array.now < PACKED_MAX }
     ensures { OnOk result (rows.new ≡ rows.old ++ blocks_of_rows k n (raised c array.now)) }
 {
+    let mut block = [0; TD_K_MAX as usize];
     for row in array.iter() {
-        push_raised_row(rows, k, n, c, h, row)?;
+        write_raised(&mut block, k, n, c, h, row);
+        rows.push_row(&block[..k as usize])?;
     }
     Ok(())
 }

@@ -1,9 +1,10 @@
 // The lines of an affine plane.
-ghost use Rattle.std.specs.Prelude.{◌≡◌, ◌+◌, ◌*◌, ◌<◌, ◌≤◌, ◌++◌, [], ◌∷◌, IfOk, OnOk};
+ghost use Rattle.std.specs.Prelude.{◌≡◌, ◌+◌, ◌*◌, ◌<◌, ◌≤◌, ◌++◌, [], ◌∷◌, IfOk, OnOk, length, take};
 ghost use Rattle.counting.specs.Sums.{list_below};
 ghost use Rattle.design_base.specs.Arrays.{blocks_of_rows};
 ghost use Rattle.design_base.specs.Blocks.{IsTd};
 ghost use Rattle.design_base.specs.Canonical.{canonical};
+ghost use Rattle.design_base.specs.Fields.{field_product};
 ghost use Rattle.incidence.specs.Packed.{size_of};
 ghost use Rattle.transversal.specs.Conditions.{CanBuildField};
 ghost use Rattle.transversal.specs.Constructions.{field_blocks, field_row, field_rows};
@@ -11,7 +12,7 @@ ghost use Rattle.transversal.specs.Constructions.{field_blocks, field_row, field
 use crate::blocks::with_room;
 use design_base::{Memory, PACKED_MAX, TD_K_MAX, TD_N_MAX};
 use field_tables::Field;
-use incidence::{Rows, push_block};
+use incidence::Rows;
 use std::alloc::Global;
 
 /// The transversal design of the lines over a field: for elements x and y the entries x and y + j * x for each element j,
@@ -33,7 +34,7 @@ pub fn field_td(alloc: Global, field: &Field, k: u16) -> Result<Rows, Memory>
     Ok(blocks)
 }
 
-// Appends the rows of all x.
+// Appends the blocks of all x.
 #[tactic(auto, using(crate::proofs::Steps::steps), unfolding(crate::specs::Constructions::field_rows))]
 fn push_lines(rows: &mut Rows, field: &Field, k: u16) -> Result<(), Memory>
     requires one_group { 1 ≤ k }
@@ -49,7 +50,21 @@ fn push_lines(rows: &mut Rows, field: &Field, k: u16) -> Result<(), Memory>
     Ok(())
 }
 
-// Appends the rows of `x`.
+// The products j * x for each element j.
+#[tactic(auto, using(crate::proofs::Steps::steps))]
+fn products_by(field: &Field, x: u16) -> [u16; TD_N_MAX as usize]
+    requires points { field.now ≤ TD_N_MAX }
+    requires within { x < field.now }
+    ensures { take field.now result ≡ list_below field.now (λ j. field_product field.now j x) }
+{
+    let mut products = [0; TD_N_MAX as usize];
+    for j in 0..field.order() {
+        products[j as usize] = field.mul(j, x);
+    }
+    products
+}
+
+// Appends the blocks of `x`.
 #[tactic(auto, using(crate::proofs::Steps::steps))]
 fn push_lines_at(rows: &mut Rows, field: &Field, k: u16, x: u16) -> Result<(), Memory>
     requires one_group { 1 ≤ k }
@@ -61,28 +76,31 @@ fn push_lines_at(rows: &mut Rows, field: &Field, k: u16, x: u16) -> Result<(), M
     ensures ok { OnOk result (rows.new ≡ rows.old ++ blocks_of_rows k field.now (list_below field.now (field_row k field.now x))) }
     ensures size { OnOk result (size_of rows.new ≤ size_of rows.old + (TD_K_MAX + 1) * field.now) }
 {
+    let products = products_by(field, x);
+    let mut block = [0; TD_K_MAX as usize];
     for y in 0..field.order() {
-        push_row_of_lines(rows, field, k, x, y)?;
+        write_line(&mut block, field, k, x, y, &products);
+        rows.push_row(&block[..k as usize])?;
     }
     Ok(())
 }
 
-// Appends the row of `x` and `y`.
-#[tactic(auto, using(crate::proofs::Steps::field_row_none))]
-fn push_row_of_lines(rows: &mut Rows, field: &Field, k: u16, x: u16, y: u16) -> Result<(), Memory>
+// Writes the block of `x` and `y` over the front of `block`.
+fn write_line(block: &mut [u16], field: &Field, k: u16, x: u16, y: u16, products: &[u16])
     requires one_group { 1 ≤ k }
     requires columns { k ≤ field.now + 1 }
-    requires groups { k ≤ TD_K_MAX }
     requires points { field.now ≤ TD_N_MAX }
     requires x_within { x < field.now }
     requires y_within { y < field.now }
-    requires room { size_of rows.old + k + 1 < PACKED_MAX }
-    ensures ok { OnOk result (rows.new ≡ rows.old ++ blocks_of_rows k field.now (field_row k field.now x y ∷ [])) }
-    ensures size { OnOk result (size_of rows.new ≡ size_of rows.old + k + 1) }
+    requires products { take field.now products.now ≡ list_below field.now (λ j. field_product field.now j x) }
+    requires each_product { length products.now ≡ TD_N_MAX }
+    requires room { k ≤ length block.old }
+    ensures len { length block.new ≡ length block.old }
+    ensures front { take k block.new ∷ [] ≡ blocks_of_rows k field.now (field_row k field.now x y ∷ []) }
 {
-    let mut row = [x; TD_K_MAX as usize];
+    let q = field.order();
+    block[0] = x;
     for j in 0..k - 1 {
-        row[j as usize + 1] = field.add(y, field.mul(j, x));
+        block[j as usize + 1] = (j + 1) * q + field.add(y, products[j as usize]);
     }
-    push_block(rows, k, field.order(), &row[..k as usize])
 }

@@ -30,7 +30,7 @@ pub fn one(alloc: Global, k: u16) -> Result<Rows, Memory>
 }
 
 // Appends the rows of `x`: for each `y` below `n` the numbers x, y and x + y modulo n, cut to `k` columns.
-#[tactic(auto, using(crate::proofs::Steps::steps, crate::proofs::CyclicArray::row_of_sums), unfolding(crate::specs::Constructions::cyclic_row))]
+#[tactic(auto, using(crate::proofs::Steps::steps))]
 fn push_sums(rows: &mut Rows, k: u16, n: u16, x: u16) -> Result<(), Memory>
     requires columns { k ≤ 3 }
     requires points { n ≤ TD_N_MAX }
@@ -40,7 +40,7 @@ fn push_sums(rows: &mut Rows, k: u16, n: u16, x: u16) -> Result<(), Memory>
     ensures size { OnOk result (size_of rows.new ≤ size_of rows.old + 4 * n) }
 {
     for y in 0..n {
-        push_block(rows, k, n, &[x, y, (x + y) % n][..k as usize])?;
+        rows.push_row(&[x, n + y, 2 * n + (x + y) % n][..k as usize])?;
     }
     Ok(())
 }

@@ -1,5 +1,5 @@
 // Products of two designs.
-ghost use Rattle.std.specs.Prelude.{◌≡◌, ◌+◌, ◌*◌, ◌<◌, ◌≤◌, ◌++◌, [], ◌∷◌, All, IfOk, OnOk, length};
+ghost use Rattle.std.specs.Prelude.{◌≡◌, ◌+◌, ◌*◌, ◌<◌, ◌≤◌, ◌++◌, [], ◌∷◌, All, IfOk, OnOk, length, take};
 ghost use Rattle.design_base.specs.Arrays.{IsRow, blocks_of_rows};
 ghost use Rattle.design_base.specs.Blocks.{IsTd};
 ghost use Rattle.design_base.specs.Canonical.{canonical};
@@ -9,7 +9,7 @@ ghost use Rattle.transversal.specs.Constructions.{product_blocks, product_row, p
 
 use crate::blocks::with_room;
 use design_base::{Memory, PACKED_MAX, TD_K_MAX, TD_N_MAX};
-use incidence::{Rows, array_of_td, push_block};
+use incidence::{Rows, array_of_td};
 use std::alloc::Global;
 
 /// The product of a transversal design of `k` groups of `a` points and one of `k` groups of `b` points: for each row r of
@@ -78,32 +78,26 @@ fn push_products_of(
     requires room { size_of rows.old + (k + 1) * length (products_of k b second.now first.now) < PACKED_MAX }
     ensures { OnOk result (rows.new ≡ rows.old ++ blocks_of_rows k (a * b) (products_of k b second.now first.now)) }
 {
+    let mut block = [0; TD_K_MAX as usize];
     for row in second.iter() {
-        push_product(rows, k, a, b, first, row)?;
+        write_product(&mut block, k, a, b, first, row);
+        rows.push_row(&block[..k as usize])?;
     }
     Ok(())
 }
 
-// Appends the product of two rows.
-#[tactic(auto, using(crate::proofs::Steps::product_row_none))]
-fn push_product(
-    rows: &mut Rows,
-    k: u16,
-    a: u16,
-    b: u16,
-    first: &[u16],
-    second: &[u16],
-) -> Result<(), Memory>
+// Writes the block of the product of two rows over the front of `block`.
+#[tactic(auto, using(incidence::proofs::RowsAndBlocks::row_block_none))]
+fn write_product(block: &mut [u16], k: u16, a: u16, b: u16, first: &[u16], second: &[u16])
     requires groups { k ≤ TD_K_MAX }
     requires points { a * b ≤ TD_N_MAX }
     requires first_row { IsRow k a first.now }
     requires second_row { IsRow k b second.now }
-    requires room { size_of rows.old + k + 1 < PACKED_MAX }
-    ensures { OnOk result (rows.new ≡ rows.old ++ blocks_of_rows k (a * b) (product_row k b first.now second.now ∷ [])) }
+    requires room { k ≤ length block.old }
+    ensures len { length block.new ≡ length block.old }
+    ensures front { take k block.new ∷ [] ≡ blocks_of_rows k (a * b) (product_row k b first.now second.now ∷ []) }
 {
-    let mut entries = [0; TD_K_MAX as usize];
     for j in 0..k as usize {
-        entries[j] = first[j] * b + second[j];
+        block[j] = j as u16 * (a * b) + (first[j] * b + second[j]);
     }
-    push_block(rows, k, a * b, &entries[..k as usize])
 }

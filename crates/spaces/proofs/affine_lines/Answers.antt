@@ -1,7 +1,7 @@
 use Rattle.std.proofs.Common.{arith, subst, sym, ◌^◌, ◌∙◌}
 use Rattle.design_base.specs.Blocks.{IsBibd}
 use Rattle.spaces.proofs.Bounds.{order_above, order_below}
-use Rattle.spaces.proofs.ListedLines.{affine_is_design, affine_listed}
+use Rattle.spaces.proofs.ListedLines.{affine_is_space, affine_is_design, affine_listed}
 use Rattle.spaces.specs.GeometryLines.{IsAffine}
 use Rattle.spaces.proofs.affine_lines.Goals as goal
 
@@ -16,3 +16,6 @@ returns-clause-blocks c = c.in_ok-lines.ensures ∙ affine_listed c.in_ok-geomet
 pub returns-clause-design : goal.returns-clause-design
 returns-clause-design c = subst (λ B. IsBibd B (c.args.field.now ^ c.args.d) c.args.field.now 1) (sym c.in_ok-lines.ensures)
     (affine_is_design c.in_ok-geometry.geometry c.args.field.now c.args.d c.in_ok-geometry.ensures)
+
+pub lines-requires-clause-space : goal.lines-requires-clause-space
+lines-requires-clause-space c = affine_is_space c.in_ok-geometry.geometry c.args.field.now c.args.d c.in_ok-geometry.ensures

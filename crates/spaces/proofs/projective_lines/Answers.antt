@@ -1,7 +1,7 @@
 use Rattle.std.proofs.Common.{arith, subst, sym, ◌+◌, ◌∙◌}
 use Rattle.design_base.specs.Blocks.{IsBibd}
 use Rattle.spaces.proofs.Bounds.{order_small}
-use Rattle.spaces.proofs.ListedLines.{length-points_in, projective_is_design, projective_listed}
+use Rattle.spaces.proofs.ListedLines.{projective_is_space, length-points_in, projective_is_design, projective_listed}
 use Rattle.spaces.specs.GeometryLines.{IsProjective}
 use Rattle.design_base.specs.Geometries.{point_count}
 use Rattle.spaces.proofs.projective_lines.Goals as goal
@@ -20,3 +20,6 @@ returns-clause-blocks c = c.in_ok-lines.ensures ∙ projective_listed c.in_ok-ge
 pub returns-clause-design : goal.returns-clause-design
 returns-clause-design c = subst (λ B. IsBibd B (point_count c.args.field.now c.args.d) (c.args.field.now + 1) 1) (sym c.in_ok-lines.ensures)
     (projective_is_design c.in_ok-geometry.geometry c.args.field.now c.args.d c.in_ok-geometry.ensures)
+
+pub lines-requires-clause-space : goal.lines-requires-clause-space
+lines-requires-clause-space c = projective_is_space c.in_ok-geometry.geometry c.args.field.now c.args.d c.in_ok-geometry.ensures
