@@ -28,24 +28,29 @@ pub fn rows_of_td(alloc: Global, k: u16, n: u16, td: &Rows) -> Result<Rows, Memo
     Ok(rows)
 }
 
-// Row `x` of the square of column `j`.
+// Writes row `x` of the square of column `j`.
 #[tactic(auto, using(crate::proofs::Steps::steps), unfolding(crate::specs::Arrays::row_of_column))]
-fn square_row(alloc: Global, n: u16, rows: &Rows, x: u16, j: u16) -> Result<Vec<u16>, Memory>
-    requires row { x < n }
+fn write_row(n: u16, rows: &Rows, x: u16, j: u16, row: &mut [u16])
+    requires row { (x < n) × (length row.old ≡ n) }
     requires array { length rows.now ≡ n * n }
     requires column { All (λ row. j < length row) rows.now }
-    ensures { IfOk result (λ row. row.items ≡ row_of_column n rows.now j x) }
+    ensures { row.new ≡ row_of_column n rows.now j x }
 {
-    let mut row = Vec::with_capacity(alloc, usize::from(n))?;
     for y in 0..n {
-        row.push(rows.row(usize::from(x) * usize::from(n) + usize::from(y))[usize::from(j)])?;
+        row[y as usize] = rows.row(x as usize * n as usize + y as usize)[j as usize];
     }
-    Ok(row)
 }
 
-// Appends the square of column `j`.
+// Appends the square of column `j`. Each of its rows is written into `row` first.
 #[tactic(auto, using(crate::proofs::Steps::steps), unfolding(crate::specs::Arrays::square_of_column))]
-fn push_square(alloc: Global, n: u16, rows: &Rows, j: u16, squares: &mut Rows) -> Result<(), Memory>
+fn push_square(
+    n: u16,
+    rows: &Rows,
+    j: u16,
+    row: &mut [u16],
+    squares: &mut Rows,
+) -> Result<(), Memory>
+    requires row { length row.old ≡ n }
     requires array { length rows.now ≡ n * n }
     requires column { All (λ row. j < length row) rows.now }
     requires room { size_of squares.old + n * (n + 1) < PACKED_MAX }
@@ -53,8 +58,8 @@ fn push_square(alloc: Global, n: u16, rows: &Rows, j: u16, squares: &mut Rows) -
     ensures size { OnOk result (size_of squares.new ≡ size_of squares.old + n * (n + 1)) }
 {
     for x in 0..n {
-        let row = square_row(alloc, n, rows, x, j)?;
-        squares.push_row(&row)?;
+        write_row(n, rows, x, j, row);
+        squares.push_row(row)?;
     }
     Ok(())
 }
@@ -71,9 +76,12 @@ pub fn squares_of_td(alloc: Global, k: u16, n: u16, td: &Rows) -> Result<Rows, M
     ensures mols { IfOk result (λ squares. IsMols squares n (k - 2)) }
 {
     let rows = rows_of_td(alloc, k, n, td)?;
+    let mut row = vec![in alloc; 0; usize::from(n)]?;
     let mut squares = Rows::new(alloc);
+    let count = usize::from(k - 2) * usize::from(n);
+    squares.reserve(count, count * usize::from(n))?;
     for s in 0..k - 2 {
-        push_square(alloc, n, &rows, s + 2, &mut squares)?;
+        push_square(n, &rows, s + 2, &mut row, &mut squares)?;
     }
     Ok(squares)
 }

@@ -1,3 +1,4 @@
+pub mod ByBits
 pub mod Counting
 pub mod Families
 pub mod Increasing

@@ -1,5 +1,5 @@
 -- A finding is Valid exactly where the block list is such a design.
-use Rattle.std.proofs.Common.{Bool, List, None, Option, Some, [], ap, arith, get_or, inl, inr, length, not, refl, subst, sym, true, ℕ, ◌&&◌, ◌+◌, ◌-◌, ◌<◌, ◌==◌, ◌∙◌, ◌∷◌, ◌≡◌, ◌≤◌, ◌⊎◌}
+use Rattle.std.proofs.Common.{Bool, List, None, Option, Some, [], ap, arith, get_or, inl, inr, length, not, refl, subst, sym, true, ℕ, ◌&&◌, ◌+◌, ◌-◌, ◌<◌, ◌==◌, ◌∙◌, ◌∷◌, ◌≡◌, ◌⊎◌}
 use Rattle.std.proofs.lemmas.Bool.{and_from, and_parts, cases_eq, eq-eqb, eqb-true, le-leb, leb-true, ne_eqb, not-false, not_from_false, not_from_true}
 use Rattle.std.proofs.lemmas.Bool.Decides.{Decides-by_and, Decides-ltb}
 use Rattle.std.specs.Bool.{Decides}
@@ -10,12 +10,11 @@ use Rattle.design_base.specs.Blocks.{IsBlock, IsDesign, IsDf, cover, differences
 use Rattle.design_base.specs.Limits.{within}
 use Rattle.design_checks.proofs.Increasing.{increasing_from_test, test_from_increasing}
 use Rattle.design_checks.proofs.Search.{below_none, found_below, found_single, none_below, none_position, none_single, position_none, single_none}
-use Rattle.design_checks.specs.Counts.{Agree, IsFirstBad, IsRow, IsRowOf, IsFirstDifference}
+use Rattle.design_checks.specs.Counts.{Agree, IsFirstBad, IsRowOf, IsFirstDifference}
 use Rattle.design_checks.specs.Findings.{block_finding, design_finding, family_finding, is_block, pair_finding, pairs, pairs_of, rises}
 use Rattle.design_checks.specs.declared.finding.Finding.{Finding}
 use Rattle.design_checks.specs.declared.finding.Finding.TheVariants.{BadBlock, BadPair, Valid}
 use Rattle.design_checks.specs.declared.finding.Pair.{Pair}
-use Rattle.design_checks.specs.declared.scratch.TheConstants.{WIDTH}
 
 -- ---- the first bad pair
 module _ (counts want : ℕ → ℕ → ℕ) where
@@ -152,12 +151,3 @@ pub good_rows_of : (v least most : ℕ) (B : List (List ℕ)) → position (λ r
 good_rows_of v least most B e k d m =
     let b = block_from_test v least most (λ n. within least most n ≡ true) (λ n. ((λ e. e), (λ e. e))) (get_or B k d) (not-false _ (position_none (λ block. not (is_block v least most block)) B e k d m)) in
     record { rises = b.rises; below = b.below; size = tt }
-
--- rows of points have their places in a line of the table
-pub wide_rows : (v : ℕ) (B : List (List ℕ)) → v ≤ WIDTH → All (IsRowOf v) B → All IsRow B
-wide_rows v B w rows k d m =
-    let b = rows k d m in
-    record { rises = b.rises; below = λ i x n. let p : get_or (get_or B k d) i x < v = b.below i x n in omega arith; size = tt }
-
-pub good_rows : (v least most : ℕ) (B : List (List ℕ)) → position (λ row. not (is_block v least most row)) B ≡ None → v ≤ WIDTH → All IsRow B
-good_rows v least most B e w = wide_rows v B w (good_rows_of v least most B e)

@@ -11,7 +11,7 @@ abbrev pub want : Wanted → ℕ → ℕ → ℕ
 want (Everywhere l) = λ x y. l
 want (Across g) = across g
 
--- groups have points, and not more than a line of the table
+-- groups have points, and not more than the largest design
 abbrev pub IsWanted : Wanted → Type 0
 IsWanted (Everywhere l) = Unit {0}
 IsWanted (Across g) = (0 < g) × (g ≤ WIDTH)
@@ -20,21 +20,17 @@ IsWanted (Across g) = (0 < g) × (g ≤ WIDTH)
 abbrev pub IsRowOf : ℕ → List ℕ → Type 0
 IsRowOf v row = IsBlock v (λ size. Unit {0}) row
 
--- increasing numbers, each of which has its place in a line of the table
-abbrev pub IsRow : List ℕ → Type 0
-IsRow row = IsRowOf WIDTH row
+-- the place of the count of x and y in a table of lines of v counts, the first of which is that of the point low
+abbrev pub cell : ℕ → ℕ → ℕ → ℕ → ℕ
+cell v low x y = (x - low) * v + y
 
--- the place of the count of x and y in a table whose first line is that of the point low
-abbrev pub cell : ℕ → ℕ → ℕ → ℕ
-cell low x y = (x - low) * WIDTH + y
-
--- P holds of each two points x < y of which x is from low on and below high
-abbrev pub Pairwise : ℕ → ℕ → (ℕ → ℕ → Type 0) → Type 0
-Pairwise low high P = (x y : ℕ) → low ≤ x → x < high → x < y → y < WIDTH → P x y
+-- P holds of each two points x < y of v of which x is from low on and below high
+abbrev pub Pairwise : ℕ → ℕ → ℕ → (ℕ → ℕ → Type 0) → Type 0
+Pairwise v low high P = (x y : ℕ) → low ≤ x → x < high → x < y → y < v → P x y
 
 -- the table holds the covers
-abbrev pub Counts : List ℕ → ℕ → ℕ → List (List ℕ) → Type 0
-Counts table low high B = Pairwise low high (λ x y. slice_index table (cell low x y) ≡ cover B x y)
+abbrev pub Counts : List ℕ → ℕ → ℕ → ℕ → List (List ℕ) → Type 0
+Counts table v low high B = Pairwise v low high (λ x y. slice_index table (cell v low x y) ≡ cover B x y)
 
 -- two functions agree from low on, below high
 abbrev pub Agree : (ℕ → ℕ) → (ℕ → ℕ) → ℕ → ℕ → Type 0

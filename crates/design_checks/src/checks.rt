@@ -3,16 +3,18 @@ ghost use Rattle.std.specs.Prelude.{◌≡◌, ◌↔◌, ◌+◌, ◌*◌, ◌<
 ghost use Rattle.design_base.specs.Blocks.{IsBibd, IsGdd, IsPbd, IsTd};
 ghost use Rattle.design_base.specs.Limits.{in_bounds};
 ghost use Rattle.design_base.specs.Meets.{GroupAt, Meets, group_add};
-ghost use Rattle.design_base.specs.declared.limits.TheConstants.{PACKED_MAX};
+ghost use Rattle.design_base.specs.declared.limits.TheConstants.{PACKED_MAX, POINTS_MAX};
 ghost use Rattle.design_checks.specs.Counts.{IsWanted, want};
 ghost use Rattle.design_checks.specs.Findings.{design_finding, family_finding, finding as finding_of};
-ghost use Rattle.design_checks.specs.declared.scratch.TheConstants.{LINES, WIDTH};
+ghost use Rattle.design_checks.specs.declared.scratch.TheConstants.{COUNTS, WIDTH};
+ghost use Rattle.design_checks.specs.declared.transversal.TheConstants.{WORDS};
 
 use crate::blocks::first_bad_block;
 use crate::differences::first_bad_difference;
 use crate::finding::{Finding, Wanted};
-use crate::pairs::first_bad_pair_of;
+use crate::pairs::first_bad_pair;
 use crate::scratch::Scratch;
+use crate::transversal::is_td;
 use design_base::{Group, Query};
 use field_tables::Fields;
 use incidence::Rows;
@@ -43,7 +45,7 @@ fn check_design(
     if let Some(i) = first_bad_block(rows, v, least, most) {
         return bad_block(i);
     }
-    match first_bad_pair_of(rows, wanted, v, &mut scratch.counts) {
+    match first_bad_pair(rows, wanted, v, &mut scratch.counts) {
         Some(pair) => Finding::BadPair {
             x: pair.x,
             y: pair.y,
@@ -64,7 +66,7 @@ fn check_family(
     scratch: &mut Scratch,
 ) -> Finding
     requires group { GroupAt group v }
-    requires points { (0 < v) × (v ≤ LINES) }
+    requires points { (0 < v) × (v ≤ POINTS_MAX) }
     ensures { result ≡ family_finding rows.now (group_add group v) v k l }
 {
     if let Some(i) = first_bad_block(rows, v, k, k) {
@@ -99,6 +101,9 @@ pub fn check_td(rows: &Rows, k: u16, n: u16, scratch: &mut Scratch) -> Finding
     ensures finding { result ≡ finding_of (Query.Td k n) rows.now }
     ensures valid { (result ≡ Finding.Valid) ↔ IsTd rows.now k n }
 {
+    if is_td(rows, k, n, &mut scratch.bits) {
+        return Finding::Valid;
+    }
     check_design(rows, n * k, k, k, Wanted::Across(n), scratch)
 }
 

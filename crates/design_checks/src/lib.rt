@@ -9,6 +9,7 @@ mod differences;
 mod finding;
 mod pairs;
 mod scratch;
+mod transversal;
 
 pub use checks::{check, check_bibd, check_df, check_gdd, check_pbd, check_td};
 pub use finding::Finding;

@@ -1,12 +1,12 @@
 //! The first two points that stand together in another number of blocks than they are to.
-ghost use Rattle.std.specs.Prelude.{◌≡◌, ◌==◌, ◌+◌, ◌*◌, ◌-◌, ◌/◌, ◌^◌, ◌<◌, ◌≤◌, ◌↔◌, All, IsTrue, MatchOption, cond, length, nat_lt, slice_index, ℕ};
+ghost use Rattle.std.specs.Prelude.{◌≡◌, ◌==◌, ◌+◌, ◌*◌, ◌-◌, ◌/◌, ◌^◌, ◌<◌, ◌≤◌, ◌↔◌, All, IsTrue, MatchOption, cond, length, nat_lt, slice_index, vec_capacity, ℕ};
 ghost use Rattle.design_base.specs.Blocks.{cover};
-ghost use Rattle.design_checks.specs.Counts.{Agree, IsFirstBad, IsRow, IsWanted, IsFirstDifference, cell, want};
-ghost use Rattle.design_checks.specs.declared.scratch.TheConstants.{CHUNK_COUNTS, LINES, WIDTH};
+ghost use Rattle.design_checks.specs.Counts.{Agree, IsFirstBad, IsRowOf, IsWanted, IsFirstDifference, cell, want};
+ghost use Rattle.design_checks.specs.declared.scratch.TheConstants.{COUNTS, WIDTH};
 
 use crate::counts::count_rows;
 use crate::finding::{Pair, Wanted};
-use crate::scratch::{CHUNK, CHUNK_COUNTS, WIDTH};
+use crate::scratch::CHUNK;
 use incidence::Rows;
 
 // The point with which those begin that x is to meet, and how often it is to meet each of them. It is to meet none of the
@@ -72,11 +72,11 @@ fn first_bad_partner(counts: &[u32], base: usize, wanted: Wanted, v: u16, x: u16
 fn first_bad_count(counts: &[u32], wanted: Wanted, v: u16, low: u16, high: u16) -> Option<Pair>
     requires wanted { IsWanted wanted }
     requires points { (low ≤ high) × (high ≤ v) × (v ≤ WIDTH) }
-    requires lines { ((high - low) * WIDTH ≤ length counts.now) × (length counts.now < 2 ^ 32) }
-    ensures { MatchOption result ((x : ℕ) → low ≤ x → x < high → Agree (λ y. slice_index counts.now (cell low x y)) (want wanted x) (x + 1) v) (λ p. IsFirstBad (λ x y. slice_index counts.now (cell low x y)) (want wanted) v low high p) }
+    requires lines { ((high - low) * v ≤ length counts.now) × (length counts.now < 2 ^ 32) }
+    ensures { MatchOption result ((x : ℕ) → low ≤ x → x < high → Agree (λ y. slice_index counts.now (cell v low x y)) (want wanted x) (x + 1) v) (λ p. IsFirstBad (λ x y. slice_index counts.now (cell v low x y)) (want wanted) v low high p) }
 {
     for x in low..high {
-        let base = (x - low) as usize * WIDTH;
+        let base = (x - low) as usize * v as usize;
         if let Some(y) = first_bad_partner(counts, base, wanted, v, x) {
             let count = counts[base + y as usize];
             return Some(Pair { x, y, count });
@@ -85,39 +85,29 @@ fn first_bad_count(counts: &[u32], wanted: Wanted, v: u16, low: u16, high: u16) 
     None
 }
 
-// The first pair x < y of v points, in lexicographic order, that does not stand together as often as it is to, from the
-// counts of one chunk of points after another.
-fn first_bad_pair(rows: &Rows, wanted: Wanted, v: u16, counts: &mut [u32]) -> Option<Pair>
+/// The first pair x < y of v points, in lexicographic order, that does not stand together as often as it is to, from the
+/// counts of one chunk of points after another.
+pub(crate) fn first_bad_pair(
+    rows: &Rows,
+    wanted: Wanted,
+    v: u16,
+    counts: &mut Vec<u32>,
+) -> Option<Pair>
     requires wanted { IsWanted wanted }
-    requires rows { All IsRow rows.now }
+    requires rows { All (IsRowOf v) rows.now }
     requires points { v ≤ WIDTH }
-    requires room { length counts.old ≡ CHUNK_COUNTS }
-    ensures { MatchOption result ((x : ℕ) → x < v → Agree (cover rows.now x) (want wanted x) (x + 1) v) (λ p. IsFirstBad (cover rows.now) (want wanted) v 0 v p) }
+    requires room { COUNTS ≤ vec_capacity counts.old }
+    ensures room { vec_capacity counts.old ≤ vec_capacity counts.new }
+    ensures pair { MatchOption result ((x : ℕ) → x < v → Agree (cover rows.now x) (want wanted x) (x + 1) v) (λ p. IsFirstBad (cover rows.now) (want wanted) v 0 v p) }
 {
     let mut low = 0;
     while low < v {
         let high = if v - low < CHUNK { v } else { low + CHUNK };
-        count_rows(rows, low, high, counts);
+        count_rows(rows, v, low, high, counts);
         if let Some(pair) = first_bad_count(counts, wanted, v, low, high) {
             return Some(pair);
         }
         low = high;
     }
     None
-}
-
-/// The first pair x < y of v points, in lexicographic order, that does not stand together as often as it is to.
-pub(crate) fn first_bad_pair_of(
-    rows: &Rows,
-    wanted: Wanted,
-    v: u16,
-    counts: &mut [u32],
-) -> Option<Pair>
-    requires wanted { IsWanted wanted }
-    requires rows { All IsRow rows.now }
-    requires points { v ≤ WIDTH }
-    requires room { length counts.old ≡ LINES * WIDTH }
-    ensures { MatchOption result ((x : ℕ) → x < v → Agree (cover rows.now x) (want wanted x) (x + 1) v) (λ p. IsFirstBad (cover rows.now) (want wanted) v 0 v p) }
-{
-    first_bad_pair(rows, wanted, v, &mut counts[..CHUNK_COUNTS])
 }

@@ -1,31 +1,34 @@
 //! The memory of the checks.
-ghost use Rattle.std.specs.Prelude.{◌≡◌, ◌*◌, length};
-ghost use Rattle.design_checks.specs.declared.scratch.TheConstants.{LINES, WIDTH};
+ghost use Rattle.std.specs.Prelude.{◌≡◌, ◌≤◌, length, vec_capacity};
+ghost use Rattle.design_checks.specs.declared.scratch.TheConstants.{COUNTS};
+ghost use Rattle.design_checks.specs.declared.transversal.TheConstants.{WORDS};
 
-use design_base::{Memory, POINTS_MAX, TD_K_MAX, TD_N_MAX};
+use crate::transversal::WORDS;
+use design_base::{Memory, TD_K_MAX, TD_N_MAX};
 use std::alloc::Global;
 
-/// The counts in a line of the table: one for each point of the largest design.
-pub(crate) const WIDTH: usize = TD_K_MAX as usize * TD_N_MAX as usize;
-/// The lines of the table: one for each element of the largest group.
-pub(crate) const LINES: u16 = POINTS_MAX;
-/// How many points of a design are counted at a time. Fewer lines than there are keep what is touched small.
+/// The points of the largest design.
+pub(crate) const WIDTH: u16 = TD_K_MAX * TD_N_MAX;
+/// How many points of a design are counted at a time. Few lines keep what is touched small.
 pub(crate) const CHUNK: u16 = TD_N_MAX;
-/// The counts of a chunk.
-pub(crate) const CHUNK_COUNTS: usize = CHUNK as usize * WIDTH;
+/// The most counts at a time, in lines of one for each point of the design.
+pub(crate) const COUNTS: usize = CHUNK as usize * WIDTH as usize;
 
-/// Room for the counts of the checks, which serves any number of them.
+/// Room for the counts and the bits of the checks, which serves any number of them. A check touches no more of it than it uses.
 #[derive(Drop)]
 pub struct Scratch {
     pub(crate) counts: Vec<u32>,
-    pub(crate) ghost room: { length counts.items ≡ LINES * WIDTH },
+    pub(crate) bits: Vec<u64>,
+    pub(crate) ghost counted: { COUNTS ≤ vec_capacity counts },
+    pub(crate) ghost noted: { WORDS ≤ vec_capacity bits },
 }
 
 impl Scratch {
     /// Takes the memory for the checks. They take no more.
     pub fn new(alloc: Global) -> Result<Scratch, Memory> {
         Ok(Scratch {
-            counts: vec![in alloc; 0; LINES as usize * WIDTH]?,
+            counts: Vec::with_capacity(alloc, COUNTS)?,
+            bits: Vec::with_capacity(alloc, WORDS)?,
         })
     }
 }

@@ -1,4 +1,4 @@
-ghost use Rattle.std.specs.Prelude.{◌≡◌, ◌^◌, ◌<◌, IfOk, length, map};
+ghost use Rattle.std.specs.Prelude.{◌≡◌, ◌*◌, ◌^◌, ◌<◌, ◌≤◌, IfOk, length, map};
 ghost use Rattle.design_base.specs.declared.limits.TheConstants.{PACKED_MAX};
 ghost use Rattle.incidence.specs.Packed.{size_of};
 
@@ -100,6 +100,54 @@ fn blocks_across_groups(rt: HostRuntime) -> Result<(), Fail> {
         count: 1,
     };
     assert_eq!(rt; check_td(&rows, 3, 2, &mut scratch), together);
+    Ok(())
+}
+
+// The block of the line of slope x through 0 and y modulo 61: one point of each of 61 groups, and point x of the last.
+fn line(x: u16, y: u16) -> [u16; 62]
+    requires { (x < 61) × (y < 61) }
+{
+    let mut block = [61 * 61 + x; 62];
+    for j in 0..61 {
+        block[j as usize] = 61 * j + (x * j + y) % 61;
+    }
+    block
+}
+
+// The blocks of the first so many lines, of which there are 61 of each slope.
+fn lines(alloc: Global, count: u16) -> Result<Rows, Memory>
+    requires { count ≤ 61 * 61 }
+    ensures { IfOk result (λ rows. size_of rows ≡ count * 63) }
+{
+    let mut rows = Rows::new(alloc);
+    for m in 0..count {
+        rows.push_row(&line(m / 61, m % 61))?;
+    }
+    Ok(rows)
+}
+
+#[test]
+#[tactic(auto, unfolding(design_base::specs::Limits::in_bounds))]
+fn a_large_transversal_design(rt: HostRuntime) -> Result<(), Fail> {
+    let mut scratch = Scratch::new(rt.alloc())?;
+    let all = lines(rt.alloc(), 61 * 61)?;
+    assert_eq!(rt; check_td(&all, 62, 61, &mut scratch), Finding::Valid);
+    let mut rows = lines(rt.alloc(), 61 * 61 - 1)?;
+    let missing = Finding::BadPair {
+        x: 60,
+        y: 120,
+        count: 0,
+    };
+    assert_eq!(rt; check_td(&rows, 62, 61, &mut scratch), missing);
+    let mut last = line(60, 60);
+    last[61] = 61 * 61 + 59;
+    rows.push_row(&last)?;
+    let twice = Finding::BadPair {
+        x: 60,
+        y: 3_780,
+        count: 2,
+    };
+    assert_eq!(rt; check_td(&rows, 62, 61, &mut scratch), twice);
     Ok(())
 }
 

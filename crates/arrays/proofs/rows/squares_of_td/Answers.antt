@@ -8,11 +8,14 @@ use Rattle.arrays.proofs.Bounds.{parts_fit, td_bounds}
 use Rattle.arrays.proofs.TdRows.{mols, squares}
 use Rattle.arrays.proofs.rows.squares_of_td.Goals as goal
 
+pub overflow_sub-k : goal.overflow_sub-k
+overflow_sub-k c = (td_bounds c.args.k c.args.n c.requires.bounds).two
+
 pub overflow_sub-s-end : goal.overflow_sub-s-end
 overflow_sub-s-end c = (td_bounds c.args.k c.args.n c.requires.bounds).two
 
 pub loop-s-init : goal.loop-s-init
-loop-s-init c = record { squares = c.new-squares.ensures ∙ sym (join_below_none (λ s. square_of_column c.args.n (rows_of_td c.args.n c.args.td.now) (s + 2))); size = omega (arith, ap size_of c.new-squares.ensures) }
+loop-s-init c = record { squares = c.reserve.ensures ∙ c.new-squares.ensures ∙ sym (join_below_none (λ s. square_of_column c.args.n (rows_of_td c.args.n c.args.td.now) (s + 2))); size = omega (arith, ap size_of c.reserve.ensures, ap size_of c.new-squares.ensures) }
 
 pub push_square-requires-clause-room : goal.push_square-requires-clause-room
 push_square-requires-clause-room c =

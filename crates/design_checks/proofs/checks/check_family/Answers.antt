@@ -17,7 +17,7 @@ returns-in-Some-first_bad_difference c =
     let want : ℕ → ℕ → ℕ = λ x d. c.args.l in
     let none : position (λ row. not (good row)) rows ≡ None = cc in
     sym (all_good good rows (pair_finding counts want (pairs_of c.args.v 0)) none
-    ∙ first_bad_with_0 counts want c.args.v c.in-Some-first_bad_difference.pair c.in-Some-first_bad_difference.ensures)
+    ∙ first_bad_with_0 counts want c.args.v c.in-Some-first_bad_difference.pair c.in-Some-first_bad_difference.ensures.pair)
 
 pub returns-in-None : goal.returns-in-None
 returns-in-None c =
@@ -27,4 +27,4 @@ returns-in-None c =
     let want : ℕ → ℕ → ℕ = λ x d. c.args.l in
     let none : position (λ row. not (good row)) rows ≡ None = cc in
     sym (all_good good rows (pair_finding counts want (pairs_of c.args.v 0)) none
-    ∙ none_valid counts want (pairs_of c.args.v 0) (agree_none counts want c.args.v 0 c.in-None.ensures))
+    ∙ none_valid counts want (pairs_of c.args.v 0) (agree_none counts want c.args.v 0 c.in-None.ensures.pair))

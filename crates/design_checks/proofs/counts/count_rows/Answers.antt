@@ -1,22 +1,10 @@
-use Rattle.std.proofs.Common.{[], arith, length, replicate, rules, subst, ◌≡◌}
-use Rattle.std.proofs.lemmas.Option.{get_or_from_slice_get}
-use Rattle.design_checks.proofs.RowByRow.{none_counted, row_counted, row_fits}
-use Rattle.design_checks.specs.Counts.{IsRow}
+use Rattle.std.proofs.Common.{arith, rules, sym, ◌-◌, ◌∙◌}
+use Rattle.std.proofs.lemmas.Nat.{mul-add-lt}
+use Rattle.design_base.proofs.Cover.{cover-none}
+use Rattle.design_checks.specs.Counts.{cell}
 use Rattle.design_checks.proofs.counts.count_rows.Goals as goal
 
-pub loop-i-init : goal.loop-i-init
-loop-i-init c =
-    let zeros : c.fill.new.self ≡ replicate (length c.args.counts.now) 0 = c.fill.ensures.after (search rules) in
-    rw zeros (none_counted (length c.args.counts.now) c.args.low c.args.high c.requires.lines.1)
-
-pub count_row-requires-clause-row : goal.count_row-requires-clause-row
-count_row-requires-clause-row c =
-    subst IsRow (get_or_from_slice_get c.args.rows.now c.loop-i.i c.row.result.now [] c.row.ensures) (c.requires.rows c.loop-i.i [] (omega arith))
-
-pub count_row-requires-clause-small : goal.count_row-requires-clause-small
-count_row-requires-clause-small c =
-    row_fits c.args.rows.now c.loop-i.i c.row.result.now c.row.ensures c.args.low c.args.high c.loop-i.counts c.loop-i.invariant c.len-i-end.ensures.small
-
-pub loop-i-preserved : goal.loop-i-preserved
-loop-i-preserved c =
-    row_counted c.args.rows.now c.loop-i.i c.row.result.now c.row.ensures c.args.low c.args.high c.loop-i.counts c.loop-i.invariant c.count_row.new.counts c.count_row.ensures
+pub count_each-requires-clause-none : goal.count_each-requires-clause-none
+count_each-requires-clause-none c = λ x y a b d e.
+    let within = mul-add-lt (x - c.args.low) c.args.v y (c.args.high - c.args.low) (omega arith) e in
+    rw c.deref_mut.ensures.value (c.resize.ensures.by_index.1 (cell c.args.v c.args.low x y) 0 (search rules) (omega (arith, c.clear.ensures.len)) (omega (arith, within)) ∙ sym (cover-none x y))
