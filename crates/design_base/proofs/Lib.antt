@@ -10,3 +10,6 @@ pub mod Orders
 pub mod RuleOrder
 pub mod Samples
 pub mod Geometries
+pub mod Bounds
+pub mod Coding
+pub mod Numbering

@@ -1,5 +1,5 @@
 -- Small values of the definitions, computed.
-use Rattle.std.proofs.Common.{◌≡◌, ℕ, ◌+◌, List, [], ◌∷◌, true, false, refl}
+use Rattle.std.proofs.Common.{◌≡◌, ℕ, ◌+◌, List, [], ◌∷◌, true, false, Some, None, refl}
 use Rattle.counting.specs.Sorting.{insert_by, sort_by}
 use Rattle.counting.specs.Search.{first_in, each_passes, is_among}
 use Rattle.counting.specs.Sums.{join_below}
@@ -10,9 +10,15 @@ use Rattle.design_base.specs.Squares.{cell}
 use Rattle.design_base.specs.Fields.{moduli, modulus_of, field_sum, field_product, powers_from, gen}
 use Rattle.design_base.specs.Limits.{in_bounds}
 use Rattle.design_base.specs.Cells.{cells, cell_of}
+use Rattle.design_base.specs.Codes.{code, read_code}
+use Rattle.design_base.specs.Questions.{query_of}
+use Rattle.design_base.specs.Steps.{step}
 use Rattle.design_base.specs.Meets.{group_add}
 use Rattle.design_base.specs.declared.query.Group.TheVariants.{Cyclic, Field}
 use Rattle.design_base.specs.declared.query.Query.TheVariants.{Td, Df, Bibd, Gdd, Pbd}
+use Rattle.design_base.specs.declared.rule.Rule.TheVariants.{Bose, Wilson1}
+use Rattle.design_base.specs.declared.verdict.Criterion.TheVariants.{Points}
+use Rattle.design_base.specs.declared.verdict.Verdict.TheVariants.{Yes, No}
 
 -- the blocks of the plane with seven points, but for the last one
 abbrev six_blocks : List (List ℕ)
@@ -137,3 +143,42 @@ last_cell = refl
 
 all_cells : cells ≡ 426435
 all_cells = refl
+
+-- and back: a question, a number whose question is out of bounds, the first number past all
+question_of_nine : query_of 203048 ≡ Some (Bibd 9 3 1)
+unfolding query_of in_bounds
+question_of_nine = refl
+
+question_of_six : query_of (cell_of (Df Field 6 3 1)) ≡ None
+unfolding query_of cell_of in_bounds modulus_of moduli first_in
+question_of_six = refl
+
+question_past_all : query_of cells ≡ None
+unfolding query_of
+question_past_all = refl
+
+-- the numbers of verdicts
+code_of_bose : code (Yes (step Bose 0 0 0 0)) ≡ 4099
+unfolding code
+code_of_bose = refl
+
+code_of_wilson : code (Yes (step Wilson1 3 5 3 0)) ≡ 3299877258755
+unfolding code
+code_of_wilson = refl
+
+code_of_points : code (No Points) ≡ 2306
+unfolding code
+code_of_points = refl
+
+verdict_of_wilson : read_code 3299877258755 ≡ Some (Yes (step Wilson1 3 5 3 0))
+unfolding read_code code
+verdict_of_wilson = refl
+
+-- no verdict has the number 0, and none a rule with a parameter that it has not
+verdict_of_none : read_code 0 ≡ None
+unfolding read_code
+verdict_of_none = refl
+
+verdict_of_surplus : read_code (4099 + 65536) ≡ None
+unfolding read_code
+verdict_of_surplus = refl

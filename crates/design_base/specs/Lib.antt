@@ -11,4 +11,6 @@ pub mod Rules
 pub mod Steps
 pub mod Meets
 pub mod Cells
+pub mod Questions
+pub mod Codes
 pub mod Geometries

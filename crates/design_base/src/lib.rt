@@ -1,6 +1,8 @@
 // What the crates above speak of: questions, their answers, and the designs that the questions ask for.
 #![tactic(auto)]
 
+mod cells;
+mod codes;
 mod limits;
 mod query;
 mod refusal;
@@ -8,6 +10,8 @@ mod rule;
 mod step;
 mod verdict;
 
+pub use cells::{CELLS, cell_of, query_of};
+pub use codes::{code, read_code};
 pub use limits::{
     BLOCK_DIGITS_MAX, COVER_MAX, DERIVATION_MAX, DIGITS_MAX, GDD_K_MAX, INPUT_MAX, LINE_MAX,
     PACKED_MAX, PARAMETER_MAX, PBD_S_MAX, POINTS_MAX, PREMISES_MAX, TD_K_MAX, TD_N_MAX,

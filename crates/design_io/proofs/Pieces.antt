@@ -1,11 +1,11 @@
 -- Pieces that are appended one after another, where the bytes are told.
-use Rattle.std.proofs.Common.{◌≡◌, ℕ, ◌+◌, ◌<◌, List, [], ◌∷◌, ◌++◌, length, take, drop, get_or, sym, ap, ◌∙◌, arith, length-append, Option, Some, Result, Ok, Err}
+use Rattle.std.proofs.Common.{◌≡◌, ℕ, ◌+◌, ◌<◌, List, [], ◌∷◌, ◌++◌, length, take, drop, get_or, subst, sym, ap, ◌∙◌, arith, length-append, Option, Some, Result, Ok, Err}
 use Rattle.std.proofs.Math.Seq.{take-add, take-append-add}
-use Rattle.std.proofs.lemmas.List.{take-append-le, take_more, drop_more, take-append-drop, append-nil}
+use Rattle.std.proofs.lemmas.List.{take_all, take-append-le, take_more, drop_more, take-append-drop, append-nil}
 use Rattle.std.proofs.lemmas.List.Concat.{flat_map-append}
 use Rattle.std.proofs.lemmas.Option.{get_or_from_slice_get, slice_get_within}
 use Rattle.std.specs.List.{flat_map, slice_get}
-use Rattle.std.specs.Result.{IsErr}
+use Rattle.std.specs.Result.{IsErr, OnErr, OnOk}
 use Rattle.std.specs.Io.KnownBytes.{Appends}
 use Rattle.std.proofs.KnownBytes.{Appends-trans}
 use Rattle.design_io.specs.Pieces.{AppendsPart, AppendsWhole}
@@ -35,6 +35,11 @@ AppendsPart-second a {b = b} {c = c} xs {ys = ys} first second = record {
 pub AppendsWhole-second : {T E : Type 0} (a b c : Option (List ℕ)) (r : Result T E) (xs ys : List ℕ) → Appends a b xs → AppendsWhole b c r ys → AppendsWhole a c r (xs ++ ys)
 AppendsWhole-second a b c (Ok x) xs ys first second = Appends-trans a b c xs ys first second
 AppendsWhole-second a b c (Err e) xs ys first second = AppendsPart-second a xs first second
+
+-- a front that was appended, all of a piece exactly at `Ok`
+pub AppendsWhole-front : {T E : Type 0} (a b : Option (List ℕ)) (r : Result T E) (bs : List ℕ) (count : ℕ) → OnOk r (count ≡ length bs) → OnErr r (count < length bs) → Appends a b (take count bs) → AppendsWhole a b r bs
+AppendsWhole-front a b (Ok x) bs count whole part front = subst (Appends a b) (take_all count bs (omega (arith, whole))) front
+AppendsWhole-front a b (Err e) bs count whole part front = record { count = count; short = part; appended = front }
 
 -- a `?` that hands an error on
 pub AppendsWhole-failed : {T E : Type 0} (a b : Option (List ℕ)) (r : Result T E) (bs : List ℕ) → IsErr r → AppendsPart a b bs → AppendsWhole a b r bs

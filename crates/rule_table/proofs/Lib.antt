@@ -13,3 +13,7 @@ pub mod Told
 pub mod Turns
 pub mod Unfolds
 pub mod Works
+pub mod Sets
+pub mod Closures
+pub mod Visiting
+pub mod Remembered

@@ -1,8 +1,10 @@
 -- Small values of the definitions, computed.
 use Rattle.std.proofs.Common.{◌≡◌, [], ◌∷◌, refl}
 use Rattle.counting.specs.Search.{first_in, each_passes}
+use Rattle.counting.specs.Sorting.{insert_by, sort_by}
 use Rattle.counting.specs.Sums.{join_below}
 use Rattle.criteria.specs.Criteria.{reasons, reason_of}
+use Rattle.design_base.specs.Cells.{cell_of}
 use Rattle.design_base.specs.Fields.{moduli, modulus_of}
 use Rattle.design_base.specs.Limits.{in_bounds}
 use Rattle.design_base.specs.declared.query.Query.TheVariants.{Td}
@@ -12,6 +14,7 @@ use Rattle.design_base.specs.declared.verdict.Verdict.TheVariants.{Yes, No, Unkn
 use Rattle.design_base.specs.Steps.{step}
 use Rattle.rule_table.specs.Asked.{asked, asked_by, asked_through}
 use Rattle.rule_table.specs.Candidates.{candidates, premises}
+use Rattle.rule_table.specs.Closure.{closure, once, reached, reached_below}
 use Rattle.rule_terms.specs.Rank.{rank}
 use Rattle.rule_terms.specs.Table.{terms}
 use Rattle.rule_terms.specs.TdTerms.{td_terms}
@@ -54,3 +57,7 @@ asked_of_eighteen = refl
 work_of_eighteen : work (Td 4 18) ≡ 15
 unfolding work work_below asked asked_by asked_through verdict verdict_below judged reasons reason_of candidates terms td_terms choices in_bounds join_below premises premises_at first_in each_passes moduli modulus_of rank
 work_of_eighteen = refl
+
+closure_of_eighteen : closure (Td 4 18) ≡ Td 4 2 ∷ Td 5 2 ∷ Td 4 3 ∷ Td 4 4 ∷ Td 5 5 ∷ Td 4 6 ∷ Td 5 6 ∷ Td 5 7 ∷ Td 5 8 ∷ Td 4 18 ∷ []
+unfolding closure once reached reached_below insert_by sort_by cell_of asked asked_by asked_through verdict verdict_below judged reasons reason_of candidates terms td_terms choices in_bounds join_below premises premises_at first_in each_passes moduli modulus_of rank
+closure_of_eighteen = refl

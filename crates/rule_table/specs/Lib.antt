@@ -6,3 +6,5 @@ pub mod Work
 pub mod Walks
 pub mod Progress
 pub mod Told
+pub mod Closure
+pub mod Noted

@@ -7,6 +7,8 @@ mod candidates;
 mod evaluation;
 mod inquiry;
 mod laws;
+mod marks;
+mod notes;
 mod steps;
 mod turn;
 mod verdicts;
@@ -17,6 +19,8 @@ pub use asker::{Asker, PlainAsker};
 pub use candidates::Candidates;
 pub use evaluation::Evaluation;
 pub use laws::rule_laws;
+pub use marks::{Marks, visit};
+pub use notes::Notes;
 pub use rule_terms::Tools;
 pub use steps::Steps;
 pub use turn::Turn;
@@ -26,6 +30,8 @@ pub use verdicts::evaluate;
 mod asked_tests;
 #[cfg(test)]
 mod bibd_tests;
+#[cfg(test)]
+mod noted_tests;
 #[cfg(test)]
 mod part_tests;
 #[cfg(test)]
