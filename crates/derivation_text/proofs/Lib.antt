@@ -1,1 +1,7 @@
 pub mod Texts
+pub mod Readings
+pub mod Words
+pub mod Clean
+pub mod ReadBack
+pub mod Exact
+pub mod Printed

@@ -1,6 +1,8 @@
-pub mod BlockTexts
 pub mod Endings
-pub mod Shortened
+pub mod WholeInputs
+pub mod Batches
+pub mod Runnings
+pub mod Settled
 pub mod ShortBlocks
 pub mod Designed
 mod Samples

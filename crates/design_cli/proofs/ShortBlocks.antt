@@ -19,14 +19,14 @@ use Rattle.design_base.specs.Arrays.{blocks_of_rows}
 use Rattle.design_base.specs.Canonical.{canonical}
 use Rattle.design_lines.specs.declared.command.Shape.{Shape}
 use Rattle.design_lines.specs.declared.command.Shape.TheVariants.{Blocks, Rows, Squares}
-use Rattle.design_cli.specs.BlockText.{BlockText, bad_line, blocks, shortened, shortest_line, until_short}
-use Rattle.design_cli.specs.LineFindings.{line_finding, lines_finding}
+use Rattle.block_texts.specs.BlockText.{BlockText, bad_line, blocks, shortened, until_short}
+use Rattle.design_cli.specs.LineFindings.{line_finding, lines_finding, shortest_line}
 use Rattle.design_cli.specs.Report.{text_report}
 use Rattle.design_reports.specs.Answers.{EndsWith}
 use Rattle.design_reports.specs.Reports.{found_report}
 use Rattle.design_reports.specs.declared.ending.Ending.{Ending}
 use Rattle.design_cli.specs.declared.checking.TheConstants.{SHORTEST_BLOCK}
-use Rattle.design_cli.proofs.Shortened.{is_short, none_short}
+use Rattle.block_texts.proofs.Shortened.{is_short, none_short}
 
 module _ (bad : List ℕ → Bool) where
   -- n is the first place of a bad row

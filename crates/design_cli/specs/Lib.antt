@@ -1,5 +1,7 @@
-pub mod BlockText
 pub mod LineFindings
 pub mod Laws
+pub mod WholeInputs
+pub mod Replays
+pub mod Batches
 pub mod Report
 pub mod Runs

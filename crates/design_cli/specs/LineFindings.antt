@@ -13,7 +13,15 @@ use Rattle.design_checks.specs.Findings.{finding}
 use Rattle.design_checks.specs.declared.finding.Finding.{Finding}
 use Rattle.design_checks.specs.declared.finding.Finding.TheVariants.{BadBlock}
 use Rattle.design_lines.specs.declared.command.Shape.{Shape}
-use Rattle.design_lines.specs.declared.command.Shape.TheVariants.{Rows, Squares}
+use Rattle.design_lines.specs.declared.command.Shape.TheVariants.{Blocks, Rows, Squares}
+use Rattle.design_cli.specs.declared.checking.TheConstants.{SHORTEST_BLOCK}
+
+-- what is read of an input: a block has two points at least, and so has a row two symbols, but squares of order 1 have
+-- lines of one
+abbrev pub shortest_line : Shape → ℕ
+shortest_line Blocks = SHORTEST_BLOCK
+shortest_line Rows = SHORTEST_BLOCK
+shortest_line Squares = 0
 
 -- the first bad line, or else what is found of the blocks that the lines stand for
 abbrev pub line_finding : Option ℕ → Finding → Finding

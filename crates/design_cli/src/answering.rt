@@ -1,114 +1,142 @@
 //! The top call.
-ghost use Rattle.std.specs.Prelude.{◌≡◌, ◌≢◌, ◌↔◌, IfNone, IfSome, Ok, false, true};
+ghost use Rattle.std.specs.Prelude.{◌≡◌, ◌≢◌, List, Ok, OnErr, false, true, ℕ};
 ghost use Rattle.derivations.specs.Laws.{YesLaw};
 ghost use Rattle.design_cli.specs.Laws.{ValidLaw, ValidRowsLaw, ValidSquaresLaw};
-ghost use Rattle.design_cli.specs.Report.{IsRefused, command_of, reads_input, takes_memory, unread_report};
+ghost use Rattle.design_cli.specs.Report.{asks_rules, command_of, command_report, reads_input};
 ghost use Rattle.design_cli.specs.Runs.{Answers, RunsOn};
 ghost use Rattle.design_io.specs.Faults.{Rose};
 ghost use Rattle.design_lines.specs.Grammar.{IsInBounds};
-ghost use Rattle.design_reports.specs.Answers.{EndsWith, HasFault, HasReadFault, Says};
-ghost use Rattle.design_reports.specs.Endings.{status_of};
+ghost use Rattle.design_reports.specs.Answers.{HasFault, HasReadFault, Says};
+ghost use Rattle.design_reports.specs.Reports.{silent};
 ghost use Rattle.rule_table.specs.Laws.{NoLaw, UnknownLaw};
 
-use crate::asking::{answer_ask, answer_explain};
-use crate::building::answer_build;
+use crate::batching::answer_batch;
 use crate::checking::answer_check;
-use crate::oracle::Oracle;
+use crate::replaying::answer_replay;
+use design_answers::{Oracle, answer_unread};
+use design_base::Memory;
 use design_io::{Sink, Source};
 use design_lines::{Asked, Command, Verb, read_words};
 use design_reports::{Ending, Status, say};
-use rule_table::{Asker, PlainAsker, Steps};
+use rule_table::{Notes, Steps};
 use std::alloc::Global;
 use std::sync::ledger::Ledger;
 
-// Answers a command that leaves the input unread.
-fn answer_unread<K: Sink, A: Asker + Drop, L: Ledger>(
-    command: Command,
-    oracle: &mut Oracle<A, L>,
-    out: &mut K,
-) -> Ending
-    requires { IsInBounds command }
-    ensures ends { EndsWith (unread_report command) result (K.held out.old) (K.held out.new) }
-    ensures cause { HasFault result (K.faults out.old) (K.faults out.new) }
-    ensures no_read { result ≢ Ending.ReadFault }
-    ensures memory { takes_memory (Ok command) ≡ false → result ≢ Ending.NoMemory }
-    ensures usage { (status_of result ≡ Status.Usage) ↔ IsRefused (unread_report command) }
-{
-    let Command::On { verb, query, shape } = command else {
-        return Ending::NotBuilt;
-    };
-    match verb {
-        Verb::Ask => answer_ask(&query, oracle, out),
-        Verb::Build => answer_build(&query, shape, oracle, out),
-        Verb::Explain => answer_explain(&query, oracle, out),
-        Verb::Closure | Verb::Check => Ending::NotBuilt,
-    }
+// What answers a command.
+enum Plan {
+    /// The check of the lines of the input.
+    Check(Asked),
+    /// The derivation that the input holds.
+    Replay,
+    /// The table of rules.
+    Rules,
+    /// Nothing yet.
+    NotBuilt,
 }
 
-// What a command asks to check.
-fn to_check(command: Command) -> Option<Asked>
-    ensures check { IfSome result (λ asked. command ≡ Command.On Verb.Check asked.query asked.shape) }
-    ensures other { IfNone result (reads_input (Ok command) ≡ false) }
+// What answers the command.
+fn plan_of(command: Command) -> Plan
+    ensures check { (asked : Asked) → result ≡ Plan.Check asked → command ≡ Command.On Verb.Check asked.query asked.shape }
+    ensures replay { result ≡ Plan.Replay → command ≡ Command.Replay }
+    ensures rules { result ≡ Plan.Rules → asks_rules command ≡ true }
+    ensures not_built { result ≡ Plan.NotBuilt → (text : List ℕ) → command_report (Ok command) text ≡ silent Ending.NotBuilt }
 {
     match command {
         Command::On {
             verb: Verb::Check,
             query,
             shape,
-        } => Some(Asked { query, shape }),
-        _ => None,
+        } => Plan::Check(Asked { query, shape }),
+        Command::On { .. } | Command::Workload { .. } | Command::Batch => Plan::Rules,
+        Command::Replay => Plan::Replay,
+        Command::Table { .. } => Plan::NotBuilt,
     }
 }
 
-// Answers a command.
-#[tactic(auto, using(crate::proofs::Endings::check_ends))]
-fn answer_command<S: Source, K: Sink, A: Asker + Drop, L: Ledger>(
+// The table of rules, with nothing asked of it yet. The answer is `Memory` only for want of memory.
+fn open_oracle<'a, L: Ledger>(
+    alloc: Global,
+    steps: &'a mut Steps<L>,
+) -> Result<Oracle<'a, Notes, L>, Memory> {
+    let notes = Notes::open(alloc)?;
+    Oracle::open(alloc, notes, steps)
+}
+
+// Answers a command by the table of rules.
+#[tactic(auto, using(crate::proofs::Runnings::unopened_ends))]
+fn answer_by_rules<S: Source, K: Sink, L: Ledger>(
+    alloc: Global,
     command: Command,
-    oracle: &mut Oracle<A, L>,
     input: &mut S,
+    steps: &mut Steps<L>,
     out: &mut K,
 ) -> Ending
-    requires { IsInBounds command }
-    ensures ends { Answers (Ok command) (S.left input.old) result (K.held out.old) (K.held out.new) }
+    requires bounds { IsInBounds command }
+    requires rules { asks_rules command ≡ true }
+    ensures ends { Answers (Ok command) (S.left input.old) (S.left input.new) result (K.held out.old) (K.held out.new) }
     ensures cause { HasFault result (K.faults out.old) (K.faults out.new) }
     ensures read_cause { HasReadFault result (S.faults input.old) (S.faults input.new) }
     ensures reading { result ≡ Ending.ReadFault → reads_input (Ok command) ≡ true }
-    ensures memory { takes_memory (Ok command) ≡ false → result ≢ Ending.NoMemory }
     ensures unread { reads_input (Ok command) ≡ false → input.new ≡ input.old }
 {
-    if let Some(asked) = to_check(command) {
-        return answer_check(oracle.alloc(), &asked.query, asked.shape, input, out);
+    let Ok(mut oracle) = open_oracle(alloc, steps) else {
+        return Ending::NoMemory;
+    };
+    if let Command::Batch = command {
+        return answer_batch(&mut oracle, input, out);
     }
-    answer_unread(command, oracle, out)
+    answer_unread(command, &mut oracle, out)
+}
+
+// Answers a command.
+#[tactic(auto, using(crate::proofs::Runnings::check_ends, crate::proofs::Runnings::replay_ends, crate::proofs::Runnings::unbuilt_ends))]
+fn answer_command<S: Source, K: Sink, L: Ledger>(
+    alloc: Global,
+    command: Command,
+    input: &mut S,
+    steps: &mut Steps<L>,
+    out: &mut K,
+) -> Ending
+    requires { IsInBounds command }
+    ensures ends { Answers (Ok command) (S.left input.old) (S.left input.new) result (K.held out.old) (K.held out.new) }
+    ensures cause { HasFault result (K.faults out.old) (K.faults out.new) }
+    ensures read_cause { HasReadFault result (S.faults input.old) (S.faults input.new) }
+    ensures reading { result ≡ Ending.ReadFault → reads_input (Ok command) ≡ true }
+    ensures unread { reads_input (Ok command) ≡ false → input.new ≡ input.old }
+{
+    match plan_of(command) {
+        Plan::Check(asked) => answer_check(alloc, &asked.query, asked.shape, input, out),
+        Plan::Replay => answer_replay(alloc, input, out),
+        Plan::Rules => answer_by_rules(alloc, command, input, steps, out),
+        Plan::NotBuilt => Ending::NotBuilt,
+    }
 }
 
 // Answers the words, and says how the answer ends.
-#[tactic(auto, using(crate::proofs::Endings::refused_ends))]
-fn answer<S: Source, K: Sink, L: Ledger>(
+#[tactic(auto, using(crate::proofs::Runnings::refused_ends))]
+pub(crate) fn answer<S: Source, K: Sink, L: Ledger>(
     alloc: Global,
     words: &[String],
     input: &mut S,
     steps: &mut Steps<L>,
     out: &mut K,
 ) -> Ending
-    ensures ends { Answers (command_of words.now) (S.left input.old) result (K.held out.old) (K.held out.new) }
+    ensures ends { Answers (command_of words.now) (S.left input.old) (S.left input.new) result (K.held out.old) (K.held out.new) }
     ensures cause { HasFault result (K.faults out.old) (K.faults out.new) }
     ensures read_cause { HasReadFault result (S.faults input.old) (S.faults input.new) }
     ensures reading { result ≡ Ending.ReadFault → reads_input (command_of words.now) ≡ true }
-    ensures memory { takes_memory (command_of words.now) ≡ false → result ≢ Ending.NoMemory }
+    ensures memory { OnErr (command_of words.now) (result ≢ Ending.NoMemory) }
     ensures unread { reads_input (command_of words.now) ≡ false → input.new ≡ input.old }
 {
     match read_words(words) {
-        Ok(command) => {
-            let mut oracle = Oracle::new(alloc, PlainAsker, steps);
-            answer_command(command, &mut oracle, input, out)
-        }
+        Ok(command) => answer_command(alloc, command, input, steps, out),
         Err(reason) => Ending::Refused { reason },
     }
 }
 
 /// Answers the words of a command line: writes the report on `out`, and at most one line on `err`, and says how that
-/// ended. The input is read only where the words ask for a check. `steps` counts the evaluations that are begun.
+/// ended. The input is read only where the words ask for a check, a replay or a batch. `steps` counts the evaluations that
+/// are begun. Words that are refused are told so before any memory is taken.
 #[tactic(auto, using(rule_table::proofs::Meanings::none_meets, rule_table::proofs::Meanings::unknown_is_open, crate::proofs::Designed::valid_is_design, crate::proofs::Designed::valid_is_array, crate::proofs::Designed::valid_are_squares))]
 pub fn run<S: Source, K: Sink, E: Sink, L: Ledger>(
     alloc: Global,
@@ -120,7 +148,7 @@ pub fn run<S: Source, K: Sink, E: Sink, L: Ledger>(
 ) -> Status
     // There is a text, what the input has left where that is told, whose report this is: the status, the bytes on the output, of
     // which a part stands after a fault, and the line on the error output.
-    ensures report { RunsOn (command_of words.now) (S.left input.old) result (K.held out.old) (K.held out.new) (λ line. Says line (E.held err.old) (E.held err.new) (E.faults err.old) (E.faults err.new)) }
+    ensures report { RunsOn (command_of words.now) (S.left input.old) (S.left input.new) result (K.held out.old) (K.held out.new) (λ line. Says line (E.held err.old) (E.held err.new) (E.faults err.old) (E.faults err.new)) }
 
     // The blocks of a yes are such a design, under a no there is no such design, and a question is unknown exactly where no criterion
     // and no rule applies.
@@ -138,7 +166,7 @@ pub fn run<S: Source, K: Sink, E: Sink, L: Ledger>(
     ensures read_fault { result ≡ Status.ReadFault → Rose (S.faults input.old) (S.faults input.new) }
     ensures reading { result ≡ Status.ReadFault → reads_input (command_of words.now) ≡ true }
 
-    ensures memory { takes_memory (command_of words.now) ≡ false → result ≢ Status.NoMemory }
+    ensures memory { OnErr (command_of words.now) (result ≢ Status.NoMemory) }
     ensures unread { reads_input (command_of words.now) ≡ false → input.new ≡ input.old }
 {
     let ending = answer(alloc, words, input, steps, out);

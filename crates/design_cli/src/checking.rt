@@ -3,15 +3,15 @@ ghost use Rattle.std.specs.Prelude.{◌≡◌, ◌≢◌, ◌≤◌, IfOk, lengt
 ghost use Rattle.design_base.specs.Limits.{in_bounds};
 ghost use Rattle.design_base.specs.declared.limits.TheConstants.{INPUT_MAX};
 ghost use Rattle.design_checks.specs.Findings.{finding as finding_of};
-ghost use Rattle.design_cli.specs.BlockText.{block_text, shortest_line};
-ghost use Rattle.design_cli.specs.LineFindings.{IsFoundIn, lines_finding};
+ghost use Rattle.block_texts.specs.BlockText.{block_text};
+ghost use Rattle.design_cli.specs.LineFindings.{IsFoundIn, lines_finding, shortest_line};
 ghost use Rattle.design_cli.specs.Report.{check_report, text_report};
 ghost use Rattle.design_cli.specs.Runs.{EndsOn};
 ghost use Rattle.design_reports.specs.Answers.{EndsWith, HasFault, HasReadFault, IsAnswer};
 ghost use Rattle.design_reports.specs.Reports.{found_report};
 
-use crate::blocks::{BlockTextEnd, read_blocks};
 use arrays::{ArrayEnd, td_of_rows, td_of_squares};
+use block_texts::{BlockTextEnd, read_blocks};
 use design_base::{INPUT_MAX, Memory, Query};
 use design_checks::{Finding, Scratch, check_bibd, check_df, check_gdd, check_pbd, check_td};
 use design_io::{Failed, Sink, Source, read_all};

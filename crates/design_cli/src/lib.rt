@@ -2,13 +2,25 @@
 #![tactic(auto)]
 
 mod answering;
-mod asking;
-mod blocks;
-mod building;
+mod batching;
 mod checking;
-mod oracle;
+mod collecting;
+mod replaying;
 
 pub use answering::run;
+pub use collecting::run_buffered;
 
+#[cfg(test)]
+mod batch_tests;
+#[cfg(test)]
+mod cases;
+#[cfg(test)]
+mod check_tests;
+#[cfg(test)]
+mod collecting_tests;
+#[cfg(test)]
+mod question_tests;
+#[cfg(test)]
+mod replay_tests;
 #[cfg(test)]
 mod tests;

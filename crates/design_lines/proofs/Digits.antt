@@ -33,9 +33,12 @@ pub record IsValue (ds : List ℕ) (value : ℕ) : Type 0 where
   pub digits : IsDigits ds
   pub written : value ≡ digits_value 10 ds
 
+-- so many digits write no more
+pub value_below : (ds : List ℕ) (most value : ℕ) → IsValue ds value → length ds ≤ most → value < 10 ^ most
+value_below ds most value h few = rw h.written (digits_value_short numerals ds most h.digits few)
+
 pub value_small : (ds : List ℕ) (i value : ℕ) → IsValue (take i ds) value → value < 10 ^ length ds
-value_small ds i value h =
-    rw h.written (digits_value_short numerals (take i ds) (length ds) h.digits (omega (arith, length-take i ds)))
+value_small ds i value h = value_below (take i ds) (length ds) value h (omega (arith, length-take i ds))
 
 -- one more digit
 pub value_more : (ds : List ℕ) (i value : ℕ) → i < length ds → IsValue (take i ds) value → is_ascii_digit (get_or ds i 0) ≡ true → IsValue (take (i + 1) ds) (10 * value + (get_or ds i 0 - 48))
@@ -46,8 +49,7 @@ value_more ds i value below so_far here =
 
 -- eight digits at most stand before the ninth
 pub value_room : (ds : List ℕ) (i value : ℕ) → i < length ds → length ds ≤ 9 → IsValue (take i ds) value → value < 10 ^ 8
-value_room ds i value below short so_far =
-    rw so_far.written (digits_value_short numerals (take i ds) 8 so_far.digits (omega (arith, length-take i ds)))
+value_room ds i value below short so_far = value_below (take i ds) 8 value so_far (omega (arith, length-take i ds))
 
 -- a number of 16 bits has at most five digits
 pub length_of_short : (n : ℕ) → n < 2 ^ 16 → length (decimal n) ≤ 5

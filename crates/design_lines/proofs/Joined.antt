@@ -1,13 +1,13 @@
 -- Words that are pushed one after another stand with one space between each two.
-use Rattle.std.proofs.Common.{◌≡◌, ℕ, ◌+◌, ◌<◌, ◌≤◌, List, [], ◌∷◌, ◌++◌, length, length-append, take, get_or, map, append_assoc, append-nil, ◌^◌, arith, refl, ap, sym, ◌∙◌}
+use Rattle.std.proofs.Common.{◌≡◌, ℕ, ◌+◌, ◌<◌, ◌≤◌, List, [], ◌∷◌, ◌++◌, length, length-append, take, get_or, map, append_assoc, append-nil, arith, ap, sym, ◌∙◌}
 use Rattle.std.specs.Fmt.{decimal}
-use Rattle.std.proofs.lemmas.Fmt.{decimal_nonempty}
+use Rattle.std.specs.List.{flat_map}
 use Rattle.std.proofs.lemmas.List.{take_more, map-append}
 use Rattle.std.proofs.lemmas.List.Sums.{fold_push}
 use Rattle.design_base.specs.declared.query.Query.{Query}
 use Rattle.design_base.specs.declared.query.Query.TheVariants.{Td, Df, Bibd, Gdd, Pbd}
 use Rattle.design_base.specs.Steps.{Step}
-use Rattle.design_lines.specs.Printed.{line_of, question_words, row_text, spaced, step_words, with_word, with_words}
+use Rattle.design_lines.specs.Printed.{line_of, question_words, spaced, step_words, with_word, with_words}
 
 -- one more number
 pub numbers_more : (line : List ℕ) (xs : List ℕ) (i : ℕ) → i < length xs → with_words line (map decimal (take (i + 1) xs)) ≡ with_word (with_words line (map decimal (take i xs))) (decimal (get_or xs i 0))
@@ -15,15 +15,14 @@ numbers_more line xs i h =
     ap (λ l. with_words line (map decimal l)) (take_more xs i 0 h) ∙ ap (with_words line) (map-append decimal (take i xs) (get_or xs i 0 ∷ [])) ∙ fold_push with_word line (map decimal (take i xs)) (decimal (get_or xs i 0))
 
 -- the words, each with a space before it
-abbrev behind_spaces : List (List ℕ) → List ℕ
-behind_spaces [] = []
-behind_spaces (word ∷ words) = 32 ∷ (word ++ behind_spaces words)
+abbrev pub behind_spaces : List (List ℕ) → List ℕ
+behind_spaces words = flat_map (λ word. 32 ∷ word) words
 
 with_words_behind : (c : ℕ) (line : List ℕ) (words : List (List ℕ)) → with_words (c ∷ line) words ≡ (c ∷ line) ++ behind_spaces words
 with_words_behind c line [] = sym (append-nil (c ∷ line))
 with_words_behind c line (word ∷ words) = with_words_behind c (line ++ 32 ∷ word) words ∙ append_assoc (c ∷ line) (32 ∷ word) (behind_spaces words)
 
-spaced_behind : (word : List ℕ) (words : List (List ℕ)) → spaced (word ∷ words) ≡ word ++ behind_spaces words
+pub spaced_behind : (word : List ℕ) (words : List (List ℕ)) → spaced (word ∷ words) ≡ word ++ behind_spaces words
 spaced_behind word [] = sym (append-nil word)
 spaced_behind word (next ∷ words) = ap (λ l. word ++ 32 ∷ l) (spaced_behind next words)
 
@@ -72,8 +71,3 @@ some_question_words (Pbd v s) = omega arith
 pub some_step_words : (s : Step) → 0 < length (step_words s)
 unfolding step_words
 some_step_words s = omega arith
-
--- numbers that are pushed on an empty line
-pub row_joined : (row : List ℕ) → get_or row 0 0 < 2 ^ 64 → with_words [] (map decimal row) ≡ row_text row
-row_joined [] h = refl
-row_joined (n ∷ row) h = words_joined (decimal n) (map decimal row) (decimal_nonempty n h)

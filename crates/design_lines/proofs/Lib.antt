@@ -2,7 +2,8 @@ pub mod Bounds
 pub mod Digits
 pub mod Joined
 pub mod ReadBack
-pub mod RowNumbers
 pub mod Runs
 pub mod InBounds
+pub mod Spaces
+pub mod NumberTexts
 mod Samples

@@ -30,7 +30,7 @@ take_run-no : (p : ℕ → Bool) (c : ℕ) (xs : List ℕ) → p c ≡ false →
 take_run-no p c xs h = ap (λ n. take n (c ∷ xs)) (run-no p c xs h)
 
 -- a blank begins no word
-words_behind_blank : (c : ℕ) (xs : List ℕ) → is_blank c ≡ true → words_of (c ∷ xs) ≡ words_of xs
+pub words_behind_blank : (c : ℕ) (xs : List ℕ) → is_blank c ≡ true → words_of (c ∷ xs) ≡ words_of xs
 unfolding words_of
 words_behind_blank c xs h = ap (filter is_not_empty) (slice_split-cons_yes is_blank c xs h)
 

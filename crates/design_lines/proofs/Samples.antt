@@ -1,5 +1,5 @@
 -- Small values of the definitions, computed.
-use Rattle.std.proofs.Common.{◌≡◌, [], ◌∷◌, ◌++◌, Some, None, Ok, Err, refl}
+use Rattle.std.proofs.Common.{◌≡◌, [], ◌∷◌, Some, Ok, Err, refl}
 use Rattle.std.specs.Fmt.{digits}
 use Rattle.std.specs.Prelude.{codes}
 use Rattle.design_base.specs.Limits.{in_bounds}
@@ -14,7 +14,6 @@ use Rattle.design_lines.specs.declared.command.Verb.TheVariants.{Ask, Build, Exp
 use Rattle.design_lines.specs.Words.{number_of, words_of}
 use Rattle.design_lines.specs.Reading.{at_end, is_next, no_fixed_word, number, one_of_or, pair, triple}
 use Rattle.design_lines.specs.Grammar.{batch_lines, input_line, input_lines, other_lines, other_questions, parse, parse_in_batch, question, questions}
-use Rattle.design_lines.specs.BlockLines.{block_line, block_number, numbers_of}
 use Rattle.design_lines.specs.Printed.{question_words, spaced, step_words}
 
 -- questions
@@ -58,20 +57,6 @@ surplus_word = refl
 out_of_bounds : parse (codes "ask" ∷ codes "td" ∷ codes "129" ∷ codes "1" ∷ []) ≡ Err OutOfBounds
 unfolding parse other_lines input_line input_lines batch_lines other_questions question questions one_of_or is_next at_end number pair number_of in_bounds
 out_of_bounds = refl
-
--- block lines
-
-block_of_two : block_line (codes " 00012  65535 " ++ 13 ∷ []) ≡ Some (12 ∷ 65535 ∷ [])
-unfolding block_line words_of numbers_of block_number
-block_of_two = refl
-
-blank_line : block_line [] ≡ Some []
-unfolding block_line words_of numbers_of
-blank_line = refl
-
-large_number : block_line (codes "1 65536") ≡ None
-unfolding block_line words_of numbers_of block_number
-large_number = refl
 
 -- printed questions and steps
 

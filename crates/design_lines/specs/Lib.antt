@@ -3,4 +3,4 @@ pub mod Source
 pub mod Reading
 pub mod Grammar
 pub mod Printed
-pub mod BlockLines
+pub mod NumberTexts

@@ -1,22 +1,24 @@
 // The lines that the program reads and writes.
 #![tactic(auto)]
 
-mod block_lines;
 mod command;
 mod commands;
 mod line;
 mod names;
+mod number_texts;
 mod numbers;
 mod questions;
+mod rows;
 mod texts;
 mod words;
 
-pub use block_lines::{BlockLineEnd, push_block_line};
 pub use command::{Asked, Command, Reason, Shape, Verb};
 pub use commands::{read_line, read_words};
 pub use line::{LINE_ROOM, Text, TextLine};
 pub use names::criterion_name;
-pub use texts::{counted_line, question_text, row_line, step_text};
+pub use rows::RowPrinter;
+pub use texts::{counted_line, question_text, step_text};
+pub use words::Words;
 
 #[cfg(test)]
 mod tests;

@@ -1,8 +1,10 @@
 //! Lines of text that are put together in place, with no memory of their own.
-ghost use Rattle.std.specs.Prelude.{◌≡◌, ◌+◌, ◌*◌, ◌≤◌, [], ◌∷◌, ◌++◌, length, map};
+ghost use Rattle.std.specs.Prelude.{◌≡◌, ◌+◌, ◌*◌, ◌≤◌, [], ◌∷◌, ◌++◌, length, map, take};
 ghost use Rattle.std.specs.Fmt.{decimal};
 ghost use Rattle.design_lines.specs.Printed.{with_word, with_words};
+ghost use Rattle.design_lines.specs.NumberTexts.{IsText};
 
+use crate::number_texts::{NumberText, TEXT_SIZE};
 use itoa::Buffer;
 use std::marker::Model;
 
@@ -46,6 +48,13 @@ impl<const ROOM: usize> InPlace<ROOM> {
         }
     }
 
+    /// Gives up the bytes.
+    pub fn clear(&mut self)
+        ensures { self.new ≡ [] }
+    {
+        self.truncate(0);
+    }
+
     /// How many bytes there are.
     pub fn len(&self) -> usize
         ensures { result ≡ length self.now }
@@ -70,6 +79,27 @@ impl<const ROOM: usize> InPlace<ROOM> {
         let room = &mut self.bytes[..];
         room[self.len..end].copy_from_slice(bytes);
         self.len = end;
+    }
+
+    // Keeps the first bytes.
+    fn truncate(&mut self, len: usize)
+        requires { len ≤ length self.old }
+        ensures { self.new ≡ take len self.old }
+    {
+        self.len = len;
+    }
+
+    // Appends the text of a number. There is room for all bytes that the text has.
+    #[tactic(auto, using(crate::proofs::NumberTexts::text_short))]
+    pub(crate) fn push_text(&mut self, number: u16, text: NumberText)
+        requires text { IsText number text }
+        requires room { length self.old + TEXT_SIZE ≤ ROOM }
+        ensures text { self.new ≡ self.old ++ 32 ∷ decimal number }
+        ensures short { length self.new ≤ length self.old + 6 }
+    {
+        let end = self.len() + usize::from(text.len);
+        self.push(&text.bytes);
+        self.truncate(end);
     }
 
     /// Appends a word, behind a space where it is not the first. There is room for both.

@@ -1,9 +1,8 @@
 use crate::{
-    BlockLineEnd, Command, Reason, Shape, TextLine, Verb, counted_line, push_block_line,
-    question_text, read_line, read_words, step_text,
+    Command, Reason, RowPrinter, Shape, TextLine, Verb, counted_line, question_text, read_line,
+    read_words, step_text,
 };
 use design_base::{Group, Query, Rule, Step, TableAsk};
-use incidence::Rows;
 use std::alloc::{AllocError, Global};
 use std::test::Fail;
 
@@ -146,46 +145,13 @@ fn questions_and_steps_are_printed(rt: HostRuntime) {
     );
 }
 
-// What is answered to a line of at most 64 bytes, and the rows that it made.
-#[tactic(auto, using(crate::proofs::RowNumbers::room_for_numbers))]
-fn added(alloc: Global, line: &[u8]) -> (Result<bool, BlockLineEnd>, Rows) {
-    let mut rows = Rows::new(alloc);
-    let answer = push_block_line(alloc, &mut rows, &line[..line.len().min(64)]);
-    (answer, rows)
-}
-
 #[test]
-fn block_lines_are_added(rt: HostRuntime) -> Result<(), Fail> {
-    let good: [(&[u8], &[u16]); 2] = [
-        (b"0 1 3", &[0, 1, 3]),
-        (b"\t00012  65535 \r", &[12, 65_535]),
-    ];
-    for (line, row) in good {
-        let (answer, rows) = added(rt.alloc(), line);
-        assert_eq!(rt; answer, Ok(true));
-        assert_eq!(rt; rows.len(), 1);
-        assert_eq!(rt; rows.row(0), row);
-    }
-    let blank: [&[u8]; 3] = [b"", b" \t\r", b"\r"];
-    for line in blank {
-        let (answer, rows) = added(rt.alloc(), line);
-        assert_eq!(rt; answer, Ok(false));
-        assert!(rt; rows.is_empty());
-    }
-    let bad: [&[u8]; 8] = [
-        b"65536",
-        b"000001",
-        b"1 x 4",
-        b"1\r\r",
-        b"1\r2",
-        b"-1",
-        b"1\x00",
-        b"\xc2\xa01",
-    ];
-    for line in bad {
-        let (answer, rows) = added(rt.alloc(), line);
-        assert_eq!(rt; answer, Err(BlockLineEnd::Bad));
-        assert!(rt; rows.is_empty());
-    }
-    Ok(())
+fn rows_are_printed(rt: HostRuntime) {
+    let mut printer = RowPrinter::new();
+    assert_eq!(rt; printer.line(&[0, 9, 10, 99]), b"0 9 10 99\n".as_slice());
+    assert_eq!(rt; printer.line(&[999, 1_000]), b"999 1000\n".as_slice());
+    assert_eq!(rt; printer.line(&[]), b"\n".as_slice());
+    assert_eq!(rt; printer.line(&[4_223, 9_999]), b"4223 9999\n".as_slice());
+    assert_eq!(rt; printer.line(&[4_224, 65_535]), b"4224 65535\n".as_slice());
+    assert_eq!(rt; printer.line(&[4_223]), b"4223\n".as_slice());
 }

@@ -1,9 +1,8 @@
-//! Questions, steps and rows of numbers as they are printed.
-ghost use Rattle.std.specs.Prelude.{◌≡◌, ◌*◌, ◌<◌, ◌≤◌, length, map};
-ghost use Rattle.std.specs.Fmt.{decimal};
-ghost use Rattle.design_lines.specs.Printed.{counted_line as counted_text, group_word, line_of, question_words, spaced, step_words};
+//! Questions and steps as they are printed.
+ghost use Rattle.std.specs.Prelude.{◌≡◌, ◌<◌, ◌≤◌, length};
+ghost use Rattle.design_lines.specs.Printed.{counted_line as counted_text, group_word, question_words, spaced, step_words};
 
-use crate::line::{LINE_ROOM, Text, TextLine};
+use crate::line::{Text, TextLine};
 use design_base::{Group, Query, Step};
 
 // The word of a group.
@@ -70,18 +69,6 @@ pub fn counted_line(word: &str, number: u64) -> TextLine
     let mut line = TextLine::new();
     line.push_word(word.as_bytes());
     line.push_number(number);
-    line.end();
-    line
-}
-
-/// A row of numbers as a line, with one space between each two. It has at most 341 numbers.
-#[tactic(auto, using(crate::proofs::Joined::row_joined))]
-pub fn row_line(row: &[u16]) -> TextLine
-    requires { 6 * length row.now < LINE_ROOM }
-    ensures { result ≡ line_of (map decimal row.now) }
-{
-    let mut line = TextLine::new();
-    line.push_numbers(row);
     line.end();
     line
 }

@@ -1,9 +1,10 @@
 //! Reading a line word by word, from the left.
-ghost use Rattle.std.specs.Prelude.{◌≡◌, ◌↔◌, ◌+◌, ◌^◌, ◌<◌, [], ◌∷◌, IfNone, IfOk, IfSome, IsTrue, MatchOption, drop, false, length, take_while};
+ghost use Rattle.std.specs.Prelude.{◌≡◌, ◌↔◌, ◌+◌, ◌^◌, ◌<◌, ◌≤◌, [], ◌∷◌, IfNone, IfOk, IfSome, IsTrue, MatchOption, drop, false, length, take, take_while};
+ghost use Rattle.std.specs.List.{position_or_len};
 ghost use Rattle.design_base.specs.Limits.{HasFewDigits};
 ghost use Rattle.design_lines.specs.Reading.{Reads, at_end, is_next, no_fixed_word, number, pair, triple};
 ghost use Rattle.design_lines.specs.Source.{words_in};
-ghost use Rattle.design_lines.specs.Words.{texts, words_of, is_blank as is_blank_byte, is_in_word};
+ghost use Rattle.design_lines.specs.Words.{is_space, spaced_words, texts, words_of, is_blank as is_blank_byte, is_in_word};
 
 use crate::command::Reason;
 use crate::numbers::number_of;
@@ -19,6 +20,8 @@ enum Source<'a> {
     Texts(&'a [String]),
     // The words are the longest runs of bytes other than space and tab.
     Line(&'a [u8]),
+    // The words stand between single spaces; none is left where there is no text.
+    Spaced(Option<&'a [u8]>),
 }
 
 /// The words of a line that are left, of which the first has the number `at`.
@@ -30,7 +33,6 @@ pub struct Words<'a> {
 
 impl<'a> Model for Words<'a> {
     ghost use Rattle.std.specs.Prelude.{ℕ, ◌+◌, ◌<◌, ◌^◌, List, length};
-    ghost use Rattle.design_base.specs.Limits.{HasFewDigits};
     ghost use Rattle.design_lines.specs.Reading.{Rest};
 
     ghost Value = { Rest };
@@ -74,6 +76,43 @@ fn first_word(line: &[u8]) -> Option<(&[u8], &[u8])>
     Some(rest.split_at(run_at_start(rest)))
 }
 
+// How many bytes a text has before its first space.
+fn space_place(text: &[u8]) -> usize
+    ensures place { result ≡ position_or_len is_space text.now }
+    ensures within { result ≤ length text.now }
+{
+    text.iter().take_while(|byte| **byte != b' ').count()
+}
+
+// What stands before the first space.
+fn before_space(text: &[u8], place: usize) -> &[u8]
+    requires { place ≤ length text.now }
+    ensures { result.now ≡ take place text.now }
+{
+    &text[..place]
+}
+
+// What stands behind the first space.
+fn behind_space(text: &[u8], place: usize) -> &[u8]
+    requires { place < length text.now }
+    ensures { result.now ≡ drop (place + 1) text.now }
+{
+    &text[place + 1..]
+}
+
+// What stands before the first space, and what stands behind it.
+#[tactic(auto, using(crate::proofs::Spaces::space_steps))]
+fn first_spaced(text: &[u8]) -> (&[u8], Option<&[u8]>)
+    ensures { spaced_words text.now ≡ result.0.now ∷ words_in (Source.Spaced result.1) }
+{
+    let place = space_place(text);
+    if place < text.len() {
+        (before_space(text, place), Some(behind_space(text, place)))
+    } else {
+        (text, None)
+    }
+}
+
 // The first word of a source, and what stands behind it.
 fn first_of<'a>(source: Source<'a>) -> Option<(&'a [u8], Source<'a>)>
     ensures { MatchOption result (words_in source.entry ≡ []) (λ r. words_in source.entry ≡ r.0.now ∷ words_in r.1) }
@@ -86,6 +125,10 @@ fn first_of<'a>(source: Source<'a>) -> Option<(&'a [u8], Source<'a>)>
         Source::Line(line) => {
             let (first, rest) = first_word(line)?;
             Some((first, Source::Line(rest)))
+        }
+        Source::Spaced(text) => {
+            let (first, rest) = first_spaced(text?);
+            Some((first, Source::Spaced(rest)))
         }
     }
 }
@@ -108,6 +151,17 @@ impl<'a> Words<'a> {
     {
         Words {
             source: Source::Line(line),
+            at: FIRST_WORD,
+        }
+    }
+
+    /// The words of a line that stand between single spaces.
+    #[tactic(auto, using(crate::proofs::Spaces::few_spaced))]
+    pub fn of_spaced(line: &'a [u8]) -> Self
+        ensures { result ≡ record { at = 1; words = spaced_words line.now } }
+    {
+        Words {
+            source: Source::Spaced(Some(line)),
             at: FIRST_WORD,
         }
     }

@@ -2,16 +2,17 @@
 use Rattle.std.proofs.Common.{◌≡◌, [], ◌∷◌, ◌++◌, refl}
 use Rattle.std.specs.Fmt.{digits}
 use Rattle.std.specs.Prelude.{codes}
+use Rattle.derivations.specs.declared.line.LineFault.TheVariants.{MissingPremise, Surplus}
 use Rattle.design_base.specs.declared.query.Query.TheVariants.{Td, Bibd}
 use Rattle.design_base.specs.declared.verdict.Verdict.TheVariants.{No, Unknown}
 use Rattle.design_base.specs.declared.verdict.Criterion.TheVariants.{Groups}
-use Rattle.design_checks.specs.declared.finding.Finding.TheVariants.{BadPair}
+use Rattle.design_checks.specs.declared.finding.Finding.TheVariants.{BadPair, Valid}
 use Rattle.design_lines.specs.Printed.{counted_line, question_words}
 use Rattle.design_lines.specs.declared.command.Reason.TheVariants.{OutOfBounds, Unknown as UnknownWord}
 use Rattle.design_reports.specs.Answers.{message_at}
 use Rattle.design_reports.specs.Endings.{message_of}
 use Rattle.design_reports.specs.Reports.{found_report, output, silent, verdict_report}
-use Rattle.design_reports.specs.Texts.{finding_line, verdict_line}
+use Rattle.design_reports.specs.Texts.{fault_line, finding_line, verdict_line}
 use Rattle.design_reports.specs.declared.ending.Ending.TheVariants.{Refused}
 use Rattle.design_reports.specs.declared.status.Status.TheVariants.{Usage, WriteFault}
 
@@ -26,6 +27,18 @@ no_report = refl
 pair_report : output (found_report (Bibd 7 3 1) (BadPair 0 5 2)) ≡ codes "bibd 7 3 1 invalid pair 0 5 covered 2" ++ 10 ∷ []
 unfolding finding_line question_words digits
 pair_report = refl
+
+valid_report : output (found_report (Td 4 26) Valid) ≡ codes "td 4 26 valid" ++ 10 ∷ []
+unfolding finding_line question_words digits
+valid_report = refl
+
+premise_line : fault_line (record { number = 7; fault = MissingPremise }) ≡ codes "invalid line 7 missing premise" ++ 10 ∷ []
+unfolding fault_line digits
+premise_line = refl
+
+surplus_line : fault_line (record { number = 1; fault = Surplus }) ≡ codes "invalid line 1 surplus line" ++ 10 ∷ []
+unfolding fault_line digits
+surplus_line = refl
 
 refused_message : message_at (silent (Refused (UnknownWord 2))) Usage ≡ codes "usage: unknown word at 2" ++ 10 ∷ []
 unfolding message_of counted_line digits

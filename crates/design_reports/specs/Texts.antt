@@ -1,6 +1,9 @@
 -- The lines that the program prints.
 use Rattle.std.specs.Prelude.{ℕ, List, [], ◌∷◌, map, codes, Option, None, Some}
 use Rattle.std.specs.Fmt.{decimal}
+use Rattle.derivations.specs.declared.line.Fault.{Fault}
+use Rattle.derivations.specs.declared.line.LineFault.{LineFault}
+use Rattle.derivations.specs.declared.line.LineFault.TheVariants.{OutOfBounds, NotCandidate, ForwardReference, MissingPremise, UsedTwice, Surplus}
 use Rattle.design_base.specs.declared.query.Query.{Query}
 use Rattle.design_base.specs.declared.verdict.Verdict.{Verdict}
 use Rattle.design_base.specs.declared.verdict.Verdict.TheVariants.{Yes, No, Unknown}
@@ -43,3 +46,16 @@ finding_words (BadPair x y count) = codes "invalid pair" ∷ decimal x ∷ decim
 -- the question and what the check of its blocks found
 unfoldable pub finding_line : Query → Finding → List ℕ
 finding_line q finding = line_of (question_text q ∷ finding_words finding)
+
+-- the printed name of what is wrong with a line of a derivation
+abbrev pub fault_word : LineFault → List ℕ
+fault_word OutOfBounds = codes "out of bounds"
+fault_word NotCandidate = codes "not a candidate"
+fault_word ForwardReference = codes "forward reference"
+fault_word MissingPremise = codes "missing premise"
+fault_word UsedTwice = codes "used twice"
+fault_word Surplus = codes "surplus line"
+
+-- the line of a derivation that has a fault, and what is wrong with it
+unfoldable pub fault_line : Fault → List ℕ
+fault_line f = line_of (codes "invalid line" ∷ decimal f.number ∷ fault_word f.fault ∷ [])

@@ -6,12 +6,13 @@ ghost use Rattle.design_io.specs.Faults.{HasCause};
 ghost use Rattle.design_io.specs.Pieces.{AppendsWhole};
 ghost use Rattle.design_base.specs.declared.limits.TheConstants.{POINTS_MAX};
 ghost use Rattle.design_lines.specs.Printed.{counted_line as counted_text};
-ghost use Rattle.design_reports.specs.Texts.{because_lines as because_texts, finding_line as finding_text, row_line as row_text, verdict_line as verdict_text};
+ghost use Rattle.design_reports.specs.Texts.{because_lines as because_texts, fault_line as fault_text, fault_word, finding_line as finding_text, row_line as row_text, verdict_line as verdict_text};
 
+use derivations::{Fault, LineFault};
 use design_base::{Query, Verdict};
 use design_checks::Finding;
 use design_io::{Failed, Sink, write_whole};
-use design_lines::{TextLine, counted_line, criterion_name, question_text, row_line, step_text};
+use design_lines::{RowPrinter, TextLine, counted_line, criterion_name, question_text, step_text};
 use incidence::Rows;
 
 /// The question and its verdict.
@@ -101,13 +102,41 @@ fn finding_line(query: &Query, finding: Finding) -> TextLine
     }
 }
 
+// The printed name of what is wrong with a line of a derivation.
+fn fault_name(fault: LineFault) -> &'static str
+    ensures name { result.now ≡ fault_word fault }
+    ensures short { length result.now ≤ 20 }
+{
+    match fault {
+        LineFault::OutOfBounds => "out of bounds",
+        LineFault::NotCandidate => "not a candidate",
+        LineFault::ForwardReference => "forward reference",
+        LineFault::MissingPremise => "missing premise",
+        LineFault::UsedTwice => "used twice",
+        LineFault::Surplus => "surplus line",
+    }
+}
+
+// The line of a derivation that has a fault, and what is wrong with it.
+#[tactic(auto, using(crate::proofs::Words::line_of_three), unfolding(crate::specs::Texts::fault_line))]
+fn fault_line(fault: Fault) -> TextLine
+    ensures { result ≡ fault_text fault }
+{
+    let mut line = TextLine::new();
+    line.push_word(b"invalid line");
+    line.push_number(fault.number);
+    line.push_word(fault_name(fault.fault).as_bytes());
+    line.end();
+    line
+}
+
 // Writes the numbers of a row on a line.
-fn write_row<K: Sink>(out: &mut K, row: &[u16]) -> Result<(), Failed>
+fn write_row<K: Sink>(out: &mut K, printer: &mut RowPrinter, row: &[u16]) -> Result<(), Failed>
     requires { length row.now ≤ POINTS_MAX }
     ensures bytes { AppendsWhole (K.held out.old) (K.held out.new) result (row_text row.now) }
     ensures cause { HasCause (K.faults out.old) (K.faults out.new) result }
 {
-    write_whole(out, row_line(row).bytes())
+    write_whole(out, printer.line(row))
 }
 
 /// Writes a word and a number on a line.
@@ -120,16 +149,22 @@ pub fn write_counted<K: Sink>(out: &mut K, word: &str, number: u64) -> Result<()
     write_whole(out, counted_line(word, number).bytes())
 }
 
-/// Writes the numbers of the rows from place `start` on, below place `end`, each row on a line.
+/// Writes the numbers of the rows from place `start` on, below place `end`, each row on a line that the printer makes.
 #[tactic(auto, using(crate::proofs::Outputs::rows_none))]
-pub fn write_rows<K: Sink>(out: &mut K, rows: &Rows, start: usize, end: usize) -> Result<(), Failed>
+pub fn write_rows<K: Sink>(
+    out: &mut K,
+    printer: &mut RowPrinter,
+    rows: &Rows,
+    start: usize,
+    end: usize,
+) -> Result<(), Failed>
     requires within { (start ≤ end) × (end ≤ length rows.now) }
     requires printable { All (λ row. length row ≤ POINTS_MAX) rows.now }
     ensures bytes { AppendsWhole (K.held out.old) (K.held out.new) result (flat_map row_text (slice_range rows.now start end)) }
     ensures cause { HasCause (K.faults out.old) (K.faults out.new) result }
 {
     for i in start..end {
-        write_row(out, rows.row(i))?;
+        write_row(out, printer, rows.row(i))?;
     }
     Ok(())
 }
@@ -156,4 +191,12 @@ pub fn write_finding<K: Sink>(out: &mut K, query: &Query, finding: Finding) -> R
     ensures cause { HasCause (K.faults out.old) (K.faults out.new) result }
 {
     write_whole(out, finding_line(query, finding).bytes())
+}
+
+/// Writes the fault of a derivation: the number of its line, and what is wrong with that.
+pub fn write_fault<K: Sink>(out: &mut K, fault: Fault) -> Result<(), Failed>
+    ensures bytes { AppendsWhole (K.held out.old) (K.held out.new) result (fault_text fault) }
+    ensures cause { HasCause (K.faults out.old) (K.faults out.new) result }
+{
+    write_whole(out, fault_line(fault).bytes())
 }

@@ -15,7 +15,7 @@ use crate::lines::{write_counted, write_rows};
 use arrays::{rows_of_td, squares_of_td};
 use design_base::{Memory, Query};
 use design_io::{Failed, Sink};
-use design_lines::Shape;
+use design_lines::{RowPrinter, Shape};
 use incidence::Rows;
 use std::alloc::Global;
 
@@ -57,7 +57,12 @@ pub fn part_of_blocks(
 
 // Writes a word with the number of the rows, and the rows.
 #[tactic(auto, using(design_io::proofs::Pieces::composed))]
-fn write_counted_rows<K: Sink>(out: &mut K, word: &str, rows: &Rows) -> Result<(), Failed>
+fn write_counted_rows<K: Sink>(
+    out: &mut K,
+    printer: &mut RowPrinter,
+    word: &str,
+    rows: &Rows,
+) -> Result<(), Failed>
     requires started { 0 < length word.now }
     requires short { length word.now ≤ 100 }
     requires printable { All (λ row. length row ≤ POINTS_MAX) rows.now }
@@ -65,12 +70,18 @@ fn write_counted_rows<K: Sink>(out: &mut K, word: &str, rows: &Rows) -> Result<(
     ensures cause { HasCause (K.faults out.old) (K.faults out.new) result }
 {
     write_counted(out, word, rows.len() as u64)?;
-    write_rows(out, rows, 0, rows.len())
+    write_rows(out, printer, rows, 0, rows.len())
 }
 
 // Writes square `s` of those that stand one below the other.
 #[tactic(auto, using(design_io::proofs::Pieces::composed), unfolding(crate::specs::Parts::square_lines))]
-fn write_square<K: Sink>(out: &mut K, n: u16, lines: &Rows, s: u16) -> Result<(), Failed>
+fn write_square<K: Sink>(
+    out: &mut K,
+    printer: &mut RowPrinter,
+    n: u16,
+    lines: &Rows,
+    s: u16,
+) -> Result<(), Failed>
     requires lines { (s + 1) * n ≤ length lines.now }
     requires printable { All (λ row. length row ≤ POINTS_MAX) lines.now }
     ensures bytes { AppendsWhole (K.held out.old) (K.held out.new) result (flat_map (λ line. line) (square_lines n lines.now s)) }
@@ -78,19 +89,25 @@ fn write_square<K: Sink>(out: &mut K, n: u16, lines: &Rows, s: u16) -> Result<()
 {
     write_counted(out, "square", u64::from(s) + 1)?;
     let start = usize::from(s) * usize::from(n);
-    write_rows(out, lines, start, start + usize::from(n))
+    write_rows(out, printer, lines, start, start + usize::from(n))
 }
 
 // Writes squares that stand one below the other.
 #[tactic(auto, using(design_io::proofs::Pieces::composed))]
-fn write_squares<K: Sink>(out: &mut K, m: u16, n: u16, lines: &Rows) -> Result<(), Failed>
+fn write_squares<K: Sink>(
+    out: &mut K,
+    printer: &mut RowPrinter,
+    m: u16,
+    n: u16,
+    lines: &Rows,
+) -> Result<(), Failed>
     requires count { length lines.now ≡ m * n }
     requires printable { All (λ row. length row ≤ POINTS_MAX) lines.now }
     ensures bytes { AppendsWhole (K.held out.old) (K.held out.new) result (flat_map (λ line. line) (join_below m (square_lines n lines.now))) }
     ensures cause { HasCause (K.faults out.old) (K.faults out.new) result }
 {
     for s in 0..m {
-        write_square(out, n, lines, s)?;
+        write_square(out, printer, n, lines, s)?;
     }
     Ok(())
 }
@@ -102,9 +119,10 @@ pub fn write_part<K: Sink>(out: &mut K, part: &Part) -> Result<(), Failed>
     ensures bytes { AppendsWhole (K.held out.old) (K.held out.new) result (flat_map (λ line. line) (part_lines part.now)) }
     ensures cause { HasCause (K.faults out.old) (K.faults out.new) result }
 {
+    let mut printer = RowPrinter::new();
     match part {
-        Part::Blocks(blocks) => write_counted_rows(out, "blocks", blocks),
-        Part::Rows(rows) => write_counted_rows(out, "rows", rows),
-        Part::Squares(m, n, lines) => write_squares(out, *m, *n, lines),
+        Part::Blocks(blocks) => write_counted_rows(out, &mut printer, "blocks", blocks),
+        Part::Rows(rows) => write_counted_rows(out, &mut printer, "rows", rows),
+        Part::Squares(m, n, lines) => write_squares(out, &mut printer, *m, *n, lines),
     }
 }

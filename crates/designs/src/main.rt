@@ -3,7 +3,7 @@
 
 ghost use Rattle.std.specs.Prelude.{◌≡◌, ◌<◌};
 
-use design_cli::run;
+use design_cli::run_buffered;
 use design_io::{StdSink, StdSource};
 use design_reports::Status;
 use rule_table::Steps;
@@ -52,17 +52,11 @@ fn answer<L: Ledger>(rt: &HostRuntime, words: &[String], blank: Blank) -> Status
     requires some { 0 < blank.parts }
 {
     let mut input = StdSource::new(rt.stdin());
-    let mut out = StdSink::new(rt.stdout());
+    let out = StdSink::new(rt.stdout());
     let mut err = StdSink::new(rt.stderr());
     let mut steps = Steps::<L>::new(blank);
-    run(
-        rt.alloc(),
-        words,
-        &mut input,
-        &mut out,
-        &mut err,
-        &mut steps,
-    )
+    let (status, _) = run_buffered(rt.alloc(), words, &mut input, out, &mut err, &mut steps);
+    status
 }
 
 fn main(rt: HostRuntime) -> ExitCode {

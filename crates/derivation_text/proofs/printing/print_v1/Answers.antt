@@ -3,6 +3,7 @@ use Rattle.std.specs.Prelude.{codes}
 use Rattle.std.specs.List.{flat_map}
 use Rattle.design_io.proofs.Pieces.{AppendsPart-first, AppendsPart-second, AppendsWhole-failed, AppendsWhole-second}
 use Rattle.design_lines.specs.Printed.{counted_line}
+use Rattle.derivation_text.proofs.ReadBack.{each_text_is_read, ok_any}
 use Rattle.derivation_text.proofs.Texts.{framed}
 use Rattle.derivation_text.specs.Text.{derivation_lines, numbered_lines}
 use Rattle.derivation_text.proofs.printing.print_v1.Goals as goal
@@ -35,3 +36,6 @@ returns-clause-bytes g c =
     (AppendsWhole-second (g.K.Sink.held c.args.sink.now) started ended c.write_whole-2.result first (lines ++ last) (rw (c.bytes.ensures.bytes, c.counted_line.ensures) at c.in_ok-write_whole.ensures.bytes)
     (AppendsWhole-second started numbered ended c.write_whole-2.result lines last (rw c.as_slice.ensures at c.in_ok-write_numbered.ensures.bytes)
     (rw (c.bytes-2.ensures.bytes, c.counted_line-2.ensures, c.len.ensures) at c.write_whole-2.ensures.bytes)))
+
+pub returns-clause-read_back : goal.returns-clause-read_back
+returns-clause-read_back g c = ok_any c.write_whole-2.result _ (each_text_is_read c.args.lines.now (rw c.as_slice.ensures at c.in_ok-write_numbered.ensures.each))

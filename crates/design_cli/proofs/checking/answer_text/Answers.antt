@@ -1,4 +1,4 @@
-use Rattle.design_cli.specs.BlockText.{block_text}
+use Rattle.block_texts.specs.BlockText.{block_text}
 use Rattle.design_cli.proofs.ShortBlocks.{kept_lines_end}
 use Rattle.design_cli.proofs.checking.answer_text.Goals as goal
 

@@ -1,0 +1,3 @@
+pub mod BlockLines
+pub mod BlockText
+pub mod Fronts

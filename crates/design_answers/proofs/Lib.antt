@@ -1,0 +1,3 @@
+pub mod MissingCells
+mod Samples
+pub mod Tallies

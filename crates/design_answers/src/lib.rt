@@ -1,0 +1,18 @@
+//! The answers to commands that leave the input unread: the verdict on a question, why it is so, its design, what
+//! it rests on, and the count of many verdicts.
+#![tactic(auto)]
+
+mod answering;
+mod asking;
+mod building;
+mod closures;
+mod draws;
+mod oracle;
+mod tally;
+mod workload;
+
+pub use answering::answer_unread;
+pub use oracle::Oracle;
+
+#[cfg(test)]
+mod tests;

@@ -1,0 +1,135 @@
+//! What the answers to questions are asked of.
+ghost use Rattle.std.specs.Prelude.{◌≡◌, ◌≤◌, ◌+◌, IfOk, length, true};
+ghost use Rattle.design_answers.specs.Draws.{drawn, drawn_cells, is_no, is_unknown};
+ghost use Rattle.derivations.specs.Derivations.{IsSound, derivation, replayed};
+ghost use Rattle.design_base.specs.Limits.{in_bounds};
+ghost use Rattle.design_base.specs.declared.limits.TheConstants.{WORKLOAD_MAX};
+ghost use Rattle.design_base.specs.Meets.{Meets};
+ghost use Rattle.design_base.specs.declared.verdict.Verdict.TheVariants.{Yes};
+ghost use Rattle.derivations.specs.Spelled.{ArePrintable};
+ghost use Rattle.rule_table.specs.Closure.{closure};
+ghost use Rattle.rule_table.specs.Verdicts.{is_yes, verdict as verdict_of};
+
+use crate::tally::{Tally, tally_draws};
+use derivations::{Derivation, ReplayEnd, derive, replay};
+use design_base::{Memory, Query, Step, Verdict};
+use incidence::Rows;
+use rule_table::{Asker, Marks, Steps, Tools, visit};
+use std::alloc::Global;
+use std::sync::ledger::Ledger;
+
+/// A derivation, and the blocks that it gives.
+#[derive(Drop)]
+pub struct Design {
+    pub derivation: Derivation,
+    pub blocks: Rows,
+}
+
+/// The table of rules, whoever answers its questions, marks on questions, and the count of evaluations: what the answers need of
+/// them, made once and lent to each.
+#[derive(Drop)]
+pub struct Oracle<'a, A: Asker + Drop, L: Ledger> {
+    alloc: Global,
+    tools: Tools,
+    asker: A,
+    marks: Marks,
+    steps: &'a mut Steps<L>,
+}
+
+impl<'a, A: Asker + Drop, L: Ledger> Oracle<'a, A, L> {
+    /// What answers ask by this asker. Memory is taken from `alloc`, here for the marks and later for derivations and designs. The answer
+    /// is `Memory` only for want of memory.
+    pub fn open(
+        alloc: Global,
+        asker: A,
+        steps: &'a mut Steps<L>,
+    ) -> Result<Oracle<'a, A, L>, Memory> {
+        let marks = Marks::open(alloc)?;
+        Ok(Oracle {
+            alloc,
+            tools: Tools::new(alloc),
+            asker,
+            marks,
+            steps,
+        })
+    }
+
+    /// Where memory is taken from.
+    pub fn alloc(&self) -> Global {
+        self.alloc
+    }
+
+    /// The verdict on a question in bounds.
+    pub fn verdict(&mut self, query: &Query) -> Verdict
+        requires { in_bounds query.now ≡ true }
+        ensures { result ≡ verdict_of query.now }
+    {
+        self.asker.ask(query, &self.tools, self.steps)
+    }
+
+    /// How many questions the closure of a question in bounds has, whatever was asked before. It takes no memory.
+    pub fn closure_size(&mut self, query: &Query) -> u32
+        requires { in_bounds query.now ≡ true }
+        ensures { result ≡ length (closure query.now) }
+    {
+        self.marks.clear();
+        visit(
+            query,
+            &self.tools,
+            &mut self.asker,
+            &mut self.marks,
+            self.steps,
+        );
+        self.marks.count()
+    }
+
+    /// How the first `n` draws of a workload are answered, of which there are at most `WORKLOAD_MAX`, and how many questions their
+    /// closures have. It takes no memory.
+    pub fn tally(&mut self, n: u32) -> (Tally, u32)
+        requires { n ≤ WORKLOAD_MAX }
+        ensures yes { result.0.yes ≡ drawn is_yes n }
+        ensures no { result.0.no ≡ drawn is_no n }
+        ensures unknown { result.0.unknown ≡ drawn is_unknown n }
+        ensures all { result.0.yes + result.0.no + result.0.unknown ≡ n }
+        ensures cells { result.1 ≡ drawn_cells n }
+    {
+        let tally = tally_draws(n, &self.tools, &mut self.asker, &mut self.marks, self.steps);
+        (tally, self.marks.count())
+    }
+
+    /// The derivation of a question in bounds whose verdict is yes by this step. The answer is `Memory` only for want of memory.
+    pub fn derivation(&mut self, query: &Query, step: &Step) -> Result<Derivation, Memory>
+        requires bounds { in_bounds query.now ≡ true }
+        requires yes { verdict_of query.now ≡ Yes step.now }
+        ensures lines { IfOk result (λ lines. lines ≡ derivation query.now) }
+        ensures sound { IfOk result IsSound }
+        ensures few { IfOk result ArePrintable }
+        ensures design { IfOk result (λ lines. Meets query.now (replayed lines)) }
+    {
+        derive(
+            self.alloc,
+            query,
+            step,
+            &self.tools,
+            &mut self.asker,
+            self.steps,
+        )
+    }
+
+    /// The same with the blocks that the derivation gives.
+    pub fn design(&mut self, query: &Query, step: &Step) -> Result<Design, Memory>
+        requires bounds { in_bounds query.now ≡ true }
+        requires yes { verdict_of query.now ≡ Yes step.now }
+        ensures derivation { IfOk result (λ design. design.derivation ≡ derivation query.now) }
+        ensures blocks { IfOk result (λ design. design.blocks ≡ replayed (derivation query.now)) }
+        ensures few { IfOk result (λ design. ArePrintable design.derivation) }
+        ensures design { IfOk result (λ design. Meets query.now design.blocks) }
+    {
+        let derivation = self.derivation(query, step)?;
+        match replay(self.alloc, &derivation, &self.tools) {
+            Ok((_, blocks)) => Ok(Design { derivation, blocks }),
+            Err(ReplayEnd::Memory) => Err(Memory),
+            Err(ReplayEnd::BadLine { .. }) => unreachable!(),
+        }
+    }
+}

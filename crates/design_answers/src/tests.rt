@@ -1,0 +1,206 @@
+// What is answered on the output, one line after another of one oracle.
+ghost use Rattle.std.specs.Prelude.{◌≡◌, ◌<◌};
+
+use crate::{Oracle, answer_unread};
+use design_io::MemorySink;
+use design_lines::read_words;
+use design_reports::Ending;
+use rule_table::{Notes, Steps};
+use std::alloc::{AllocError, Global};
+use std::marker::Brand;
+use std::sync::ledger::{Blank, Ledger};
+use std::test::Fail;
+
+// A line, the number of the output's call that fails, and what comes of it.
+#[derive(Drop)]
+struct Case {
+    line: &'static str,
+    failing: u32,
+    output: &'static str,
+    ending: Ending,
+}
+
+fn told(line: &'static str, output: &'static str, ending: Ending) -> Case {
+    Case {
+        line,
+        failing: 0,
+        output,
+        ending,
+    }
+}
+
+fn words_of(alloc: Global, text: &str) -> Result<Vec<String>, AllocError> {
+    let mut words = Vec::new(alloc);
+    for word in text.split_whitespace() {
+        words.push(String::from_str(alloc, word)?)?;
+    }
+    Ok(words)
+}
+
+// Whether the line is answered so.
+fn holds<L: Ledger>(
+    alloc: Global,
+    oracle: &mut Oracle<Notes, L>,
+    row: &Case,
+) -> Result<bool, AllocError> {
+    let words = words_of(alloc, row.line)?;
+    let Ok(command) = read_words(&words) else {
+        return Ok(false);
+    };
+    let Ok(mut out) = MemorySink::new(alloc, 4096, vec![in alloc; row.failing]?) else {
+        return Err(AllocError);
+    };
+    let ending = answer_unread(command, oracle, &mut out);
+    Ok(ending == row.ending && out.bytes() == row.output.as_bytes())
+}
+
+// How many of the lines are answered so, up to the first that is not, with the steps counted on a ledger.
+fn count_counted<L: Ledger>(alloc: Global, rows: &[Case], blank: Blank) -> Result<usize, AllocError>
+    requires name { L.name ≡ blank.name }
+    requires parts { L.parts ≡ blank.parts }
+    requires some { 0 < blank.parts }
+{
+    let mut steps = Steps::<L>::new(blank);
+    let Ok(notes) = Notes::open(alloc) else {
+        return Err(AllocError);
+    };
+    let Ok(mut oracle) = Oracle::open(alloc, notes, &mut steps) else {
+        return Err(AllocError);
+    };
+    for (i, row) in rows.iter().enumerate() {
+        if !holds(alloc, &mut oracle, row)? {
+            return Ok(i);
+        }
+    }
+    Ok(rows.len())
+}
+
+// How many of the lines are answered so, up to the first that is not.
+fn count(alloc: Global, rows: &[Case]) -> Result<usize, AllocError> {
+    count_counted::<Brand>(alloc, rows, Blank::new(1))
+}
+
+const SUM_9: &str = "bibd 9 3 4 yes sum 1
+derivation 1
+1 bibd 9 3 1 bose
+2 bibd 9 3 3 middle
+3 bibd 9 3 4 sum 1 from 1 2
+end 3
+";
+
+const SKOLEM_7: &str = "bibd 7 3 1 yes skolem
+derivation 1
+1 bibd 7 3 1 skolem
+end 1
+blocks 7
+0 1 3
+0 2 4
+0 5 6
+1 2 6
+1 4 5
+2 3 5
+3 4 6
+";
+
+#[test]
+fn verdicts_and_designs(rt: HostRuntime) -> Result<(), Fail> {
+    let rows = [
+        told("ask bibd 10 6 5", "bibd 10 6 5 unknown\n", Ending::Unknown),
+        told("ask bibd 8 3 1", "bibd 8 3 1 no replication\n", Ending::No),
+        told("explain bibd 9 3 4", SUM_9, Ending::Yes),
+        told("build bibd 7 3 1", SKOLEM_7, Ending::Yes),
+        told("table td 3 6 1 14 workers 4", "", Ending::NotBuilt),
+        told("check bibd 7 3 1", "", Ending::NotBuilt),
+        told("replay", "", Ending::NotBuilt),
+        told("batch", "", Ending::NotBuilt),
+    ];
+    assert_eq!(rt; count(rt.alloc(), &rows)?, rows.len());
+    Ok(())
+}
+
+const CLOSURE_18: &str = "td 4 18 yes wilson1 3 5 3
+closure 10
+";
+
+// What was asked before is not counted.
+#[test]
+fn closures(rt: HostRuntime) -> Result<(), Fail> {
+    let rows = [
+        told("closure td 4 18", CLOSURE_18, Ending::Yes),
+        told(
+            "closure bibd 25 4 1",
+            "bibd 25 4 1 yes developf\nclosure 3\n",
+            Ending::Yes,
+        ),
+        told(
+            "closure bibd 10 6 5",
+            "bibd 10 6 5 unknown\nclosure 7\n",
+            Ending::Unknown,
+        ),
+        told(
+            "closure df z 12 3 1",
+            "df z 12 3 1 no differences\nclosure 1\n",
+            Ending::No,
+        ),
+        told("closure td 4 18", CLOSURE_18, Ending::Yes),
+        Case {
+            line: "closure td 4 18",
+            failing: 2,
+            output: "td 4 18 yes wilson1 3 5 3\n",
+            ending: Ending::WriteFault,
+        },
+    ];
+    assert_eq!(rt; count(rt.alloc(), &rows)?, rows.len());
+    Ok(())
+}
+
+const WORKLOAD_10: &str = "workload 10
+yes 6
+no 4
+unknown 0
+cells 11
+";
+
+const WORKLOAD_300: &str = "workload 300
+yes 104
+no 183
+unknown 13
+cells 278
+";
+
+// A workload is counted afresh each time.
+#[test]
+fn workloads(rt: HostRuntime) -> Result<(), Fail> {
+    let rows = [
+        told("closure td 4 18", CLOSURE_18, Ending::Yes),
+        told("workload 10", WORKLOAD_10, Ending::Yes),
+        told("workload 300", WORKLOAD_300, Ending::Yes),
+        told("workload 300", WORKLOAD_300, Ending::Yes),
+        told("closure td 4 18", CLOSURE_18, Ending::Yes),
+        Case {
+            line: "workload 10",
+            failing: 3,
+            output: "workload 10\nyes 6\n",
+            ending: Ending::WriteFault,
+        },
+    ];
+    assert_eq!(rt; count(rt.alloc(), &rows)?, rows.len());
+    Ok(())
+}
+
+const WORKLOAD_20000: &str = "workload 20000
+yes 6404
+no 12232
+unknown 1364
+cells 8321
+";
+
+#[test]
+fn large_workload(rt: HostRuntime) -> Result<(), Fail> {
+    let rows = [
+        told("workload 20000", WORKLOAD_20000, Ending::Yes),
+        told("workload 20000", WORKLOAD_20000, Ending::Yes),
+    ];
+    assert_eq!(rt; count(rt.alloc(), &rows)?, rows.len());
+    Ok(())
+}

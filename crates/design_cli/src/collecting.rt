@@ -1,0 +1,100 @@
+//! The top call over an output that gets the report in few pieces.
+ghost use Rattle.std.specs.Prelude.{◌≡◌, ◌≢◌, OnErr, OnOk, false, true};
+ghost use Rattle.derivations.specs.Laws.{YesLaw};
+ghost use Rattle.design_cli.specs.Laws.{ValidLaw, ValidRowsLaw, ValidSquaresLaw};
+ghost use Rattle.design_cli.specs.Report.{command_of, reads_input};
+ghost use Rattle.design_cli.specs.Runs.{Answers, RunsOn};
+ghost use Rattle.design_io.specs.Buffers.{handed};
+ghost use Rattle.design_io.specs.Faults.{HasCause, Rose};
+ghost use Rattle.design_io.specs.Pieces.{AppendsWhole};
+ghost use Rattle.design_reports.specs.Answers.{HasFault, HasReadFault, Says};
+ghost use Rattle.rule_table.specs.Laws.{NoLaw, UnknownLaw};
+
+use crate::answering::answer;
+use design_io::{Buffered, Failed, Origin, Sink, Source};
+use design_reports::{Ending, Status, say};
+use rule_table::Steps;
+use std::alloc::Global;
+use std::marker::Brand;
+use std::sync::ledger::Ledger;
+
+// How an answer ends once the last bytes were flushed, or could not be.
+fn settled(ending: Ending, end: Result<(), Failed>) -> Ending
+    ensures kept { OnOk end (result ≡ ending) }
+    ensures failed { OnErr end (result ≡ Ending.WriteFault) }
+{
+    match end {
+        Ok(()) => ending,
+        Err(Failed) => Ending::WriteFault,
+    }
+}
+
+// Flushes a buffer, and hands back the output behind it.
+fn flushed<K: Sink, O: Origin>(mut buffered: Buffered<K, O>) -> (Result<(), Failed>, K)
+    ensures bytes { AppendsWhole O.start (K.held result.1) result.0 (handed buffered) }
+    ensures cause { HasCause (K.faults buffered.inner) (K.faults result.1) result.0 }
+{
+    let end = buffered.flush();
+    (end, buffered.into_inner())
+}
+
+// Answers the words on a buffer before the output, and flushes it.
+fn answer_buffered<S: Source, K: Sink, L: Ledger, O: Origin>(
+    alloc: Global,
+    words: &[String],
+    input: &mut S,
+    steps: &mut Steps<L>,
+    out: K,
+) -> (Ending, K)
+    requires { O.start ≡ K.held out }
+    ensures ends { Answers (command_of words.now) (S.left input.old) (S.left input.new) result.0 (K.held out) (K.held result.1) }
+    ensures cause { HasFault result.0 (K.faults out) (K.faults result.1) }
+    ensures read_cause { HasReadFault result.0 (S.faults input.old) (S.faults input.new) }
+    ensures reading { result.0 ≡ Ending.ReadFault → reads_input (command_of words.now) ≡ true }
+    ensures memory { OnErr (command_of words.now) (result.0 ≢ Ending.NoMemory) }
+    ensures unread { reads_input (command_of words.now) ≡ false → input.new ≡ input.old }
+{
+    let mut buffered = Buffered::<K, O>::new(out);
+    let ending = answer(alloc, words, input, steps, &mut buffered);
+    let (end, inner) = flushed(buffered);
+    (settled(ending, end), inner)
+}
+
+/// Answers the words of a command line as `run` does, but collects the report in a buffer of fixed size, which is written on `out`
+/// where it is full and at the end. `out` is handed back behind the status.
+#[tactic(auto, using(rule_table::proofs::Meanings::none_meets, rule_table::proofs::Meanings::unknown_is_open, crate::proofs::Designed::valid_is_design, crate::proofs::Designed::valid_is_array, crate::proofs::Designed::valid_are_squares))]
+pub fn run_buffered<S: Source, K: Sink, E: Sink, L: Ledger>(
+    alloc: Global,
+    words: &[String],
+    input: &mut S,
+    out: K,
+    err: &mut E,
+    steps: &mut Steps<L>,
+) -> (Status, K)
+    // There is a text, what the input has left where that is told, whose report this is: the status, the bytes on the output, of
+    // which a part stands after a fault, and the line on the error output.
+    ensures report { RunsOn (command_of words.now) (S.left input.old) (S.left input.new) result.0 (K.held out) (K.held result.1) (λ line. Says line (E.held err.old) (E.held err.new) (E.faults err.old) (E.faults err.new)) }
+
+    // The blocks of a yes are such a design, under a no there is no such design, and a question is unknown exactly where no criterion
+    // and no rule applies.
+    ensures design { YesLaw }
+    ensures none { NoLaw }
+    ensures unknown { UnknownLaw }
+
+    // Exactly the blocks, the rows and the squares of such designs are found valid.
+    ensures valid { ValidLaw }
+    ensures valid_rows { ValidRowsLaw }
+    ensures valid_squares { ValidSquaresLaw }
+
+    // A fault comes only where the count of its object rose, and a read fault only where the words read the input.
+    ensures write_fault { result.0 ≡ Status.WriteFault → Rose (K.faults out) (K.faults result.1) }
+    ensures read_fault { result.0 ≡ Status.ReadFault → Rose (S.faults input.old) (S.faults input.new) }
+    ensures reading { result.0 ≡ Status.ReadFault → reads_input (command_of words.now) ≡ true }
+
+    ensures memory { OnErr (command_of words.now) (result.0 ≢ Status.NoMemory) }
+    ensures unread { reads_input (command_of words.now) ≡ false → input.new ≡ input.old }
+{
+    let (ending, inner) = answer_buffered::<S, K, L, Brand>(alloc, words, input, steps, out);
+    say(err, ending.message().bytes());
+    (ending.status(), inner)
+}
