@@ -1,0 +1,9 @@
+pub mod Steps
+pub mod Drops
+pub mod Taken
+pub mod Told
+pub mod Sound
+pub mod Failed
+pub mod Lines
+pub mod Readings
+pub mod Loads
