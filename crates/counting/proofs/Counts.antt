@@ -102,6 +102,10 @@ grid_one n m a b p l k e u = sum_below-at n a (λ x. sum_below m (λ y. one (p x
 pub grid_none : (n m : ℕ) (p : ℕ → ℕ → Bool) → ((x y : ℕ) → x < n → y < m → p x y ≡ true → ⊥) → sum_below n (λ x. sum_below m (λ y. one (p x y))) ≡ 0
 grid_none n m p none = sum_below-zero n (λ x. sum_below m (λ y. one (p x y))) (λ x i. count_none m (λ y. p x y) (λ y j. none x y i j))
 
+pub both : (a b : Bool) → (a && b) ≡ true → (a ≡ true) × (b ≡ true)
+both true b e = (refl, e)
+both false b e = cc
+
 pub both_equal : (x y a b : ℕ) → ((x == a) && (y == b)) ≡ true → (x ≡ a) × (y ≡ b)
 both_equal x y a b h = grind (arith, nat_tests)
 

@@ -7,6 +7,7 @@ use Rattle.std.specs.List.{AllByRecursion, list_all, slice_split}
 use Rattle.std.proofs.lemmas.Bool.Decides.{nat_tests}
 use Rattle.std.proofs.lemmas.Fmt.{digits_decimal}
 use Rattle.std.proofs.lemmas.List.Splits.{slice_split-cons_yes, slice_split-cons_no}
+use Rattle.counting.proofs.Counts.{both}
 use Rattle.counting.specs.Search.{◌<=◌}
 use Rattle.design_base.specs.Limits.{HasFewDigits}
 use Rattle.design_base.specs.declared.query.Group.TheVariants.{Cyclic, Field}
@@ -21,7 +22,6 @@ use Rattle.design_lines.specs.Grammar.{is_narrow}
 use Rattle.design_lines.specs.Printed.{line_of, question_words, spaced, step_words}
 use Rattle.design_lines.specs.Words.{is_space, spaced_words}
 use Rattle.design_lines.proofs.Digits.{numerals}
-use Rattle.rule_terms.proofs.Bounds.{both}
 use Rattle.derivation_text.specs.Text.{from_words}
 
 abbrev is_clean : ℕ → Bool

@@ -10,6 +10,7 @@ use Rattle.std.proofs.lemmas.Bool.Decides.{nat_tests}
 use Rattle.std.proofs.lemmas.Fmt.{decimal-digits_value}
 use Rattle.std.proofs.lemmas.Slice.Eq.{bytes_eq-Decides}
 use Rattle.std.proofs.lemmas.Str.Parse.{digits_value_short}
+use Rattle.counting.proofs.Counts.{both}
 use Rattle.counting.specs.Search.{◌<=◌}
 use Rattle.design_base.specs.declared.limits.TheConstants.{PARAMETER_MAX}
 use Rattle.design_base.specs.declared.query.Group.TheVariants.{Cyclic, Field}
@@ -25,7 +26,6 @@ use Rattle.design_lines.specs.Printed.{question_words}
 use Rattle.design_lines.specs.Reading.{Entry, Reader, Reading, behind, gives, ◌then◌, is_next, number, one_of, one_of_or, pair, refused, spelled, triple}
 use Rattle.design_lines.specs.Words.{is_short, number_of}
 use Rattle.design_lines.proofs.Digits.{numerals}
-use Rattle.rule_terms.proofs.Bounds.{both}
 use Rattle.rule_terms.proofs.Grounded.{few_parameters}
 use Rattle.derivation_text.specs.Grammar.{◌giving◌, if_there, names, numbers_behind, parameter, rule_word, step_of_rule}
 use Rattle.derivation_text.specs.Text.{from_words}

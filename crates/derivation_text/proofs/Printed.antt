@@ -8,6 +8,7 @@ use Rattle.std.proofs.lemmas.Bool.Decides.{Decides-eqb, nat_tests}
 use Rattle.std.proofs.lemmas.Fmt.{decimal_digit}
 use Rattle.std.proofs.lemmas.List.Splits.{join_with_byte-slice_split}
 use Rattle.std.proofs.lemmas.Slice.Eq.{bytes_eq-Decides}
+use Rattle.counting.proofs.Counts.{both}
 use Rattle.counting.specs.Search.{◌<=◌}
 use Rattle.design_base.specs.declared.limits.TheConstants.{DERIVATION_MAX}
 use Rattle.design_base.specs.Rules.{kind_of, title}
@@ -20,7 +21,6 @@ use Rattle.design_lines.specs.Reading.{Reader, Reading, at_end, gives, ◌then�
 use Rattle.design_lines.specs.Words.{spaced_words}
 use Rattle.derivations.specs.Derivations.{line}
 use Rattle.derivations.specs.declared.line.Line.{Line}
-use Rattle.rule_terms.proofs.Bounds.{both}
 use Rattle.derivation_text.specs.Grammar.{Parsed, parsed, bad, too_long, ◌giving◌, alone, end_line, if_whole, is_end, is_head, is_number, line_behind, line_read, names, parse_behind, parse_lines, parse_text, rule_word, spelled_line, step_of_rule}
 use Rattle.derivation_text.specs.Spelling.{OnlyTextLaw, text_of}
 use Rattle.derivation_text.specs.Text.{derivation_lines, from_words, numbered_line, numbered_lines}

@@ -8,6 +8,7 @@ use Rattle.std.specs.List.{AllByRecursion, flat_map, list_all}
 use Rattle.std.proofs.lemmas.Fmt.{decimal_digit, digits_decimal}
 use Rattle.std.proofs.lemmas.Bool.Decides.{nat_tests}
 use Rattle.std.proofs.lemmas.List.Elements.{recursion_from_All}
+use Rattle.counting.proofs.Counts.{both}
 use Rattle.counting.specs.Search.{◌<=◌}
 use Rattle.design_base.specs.Limits.{HasFewDigits}
 use Rattle.design_base.specs.declared.limits.TheConstants.{DERIVATION_MAX}
@@ -17,7 +18,6 @@ use Rattle.design_lines.specs.Reading.{at_end, is_next, one_of_or}
 use Rattle.design_lines.proofs.Digits.{numerals}
 use Rattle.derivations.specs.Spelled.{IsSpellable}
 use Rattle.derivations.specs.declared.line.Line.{Line}
-use Rattle.rule_terms.proofs.Bounds.{both}
 use Rattle.derivation_text.specs.Grammar.{end_line, is_end, parse_behind, parse_text, parsed, spelled_line}
 use Rattle.derivation_text.specs.Spelling.{IsKept, ReadBackLaw}
 use Rattle.derivation_text.specs.Text.{derivation_lines, from_words, numbered_line, numbered_lines}

@@ -5,10 +5,10 @@ use Rattle.std.proofs.Math.Seq.{drop-length}
 use Rattle.std.proofs.lemmas.List.{get_or_default}
 use Rattle.std.proofs.lemmas.Option.{slice_get_read}
 use Rattle.design_base.specs.declared.query.Query.{Query}
-use Rattle.derivations.specs.Same.{same_query}
+use Rattle.design_base.specs.Same.{same_query}
 use Rattle.derivations.specs.declared.line.Line.{Line}
 use Rattle.derivations.specs.Derivations.{answers, question_at}
-use Rattle.derivations.proofs.Same.{query_same}
+use Rattle.design_base.proofs.Same.{query_same}
 
 pub other_length : (D : List Line) (from : List ℕ) (ps : List Query) → length from ≢ length ps → false ≡ answers D from ps
 unfolding answers

@@ -1,5 +1,6 @@
 -- The rules of difference families: a candidate has what its construction needs, and the construction gives the family.
 use Rattle.std.proofs.Common.{◌≡◌, ℕ, ◌∙◌, true, List, [], ◌∷◌, length, refl, sym}
+use Rattle.counting.proofs.Counts.{both}
 use Rattle.design_base.specs.Canonical.{canonical}
 use Rattle.design_base.specs.Limits.{in_bounds, within}
 use Rattle.design_base.specs.Meets.{Meets}
@@ -15,7 +16,6 @@ use Rattle.difference_sets.specs.FamilySteps.{family_applies, is_family_step, is
 use Rattle.difference_sets.specs.Listed.{families}
 use Rattle.rule_terms.specs.DfTerms.{df_terms}
 use Rattle.rule_terms.specs.Terms.{allows, premises_at}
-use Rattle.rule_terms.proofs.Bounds.{both}
 use Rattle.derivations.specs.AllMeet.{AllMeet}
 use Rattle.derivations.specs.DfBlocks.{df_blocks, CanBuildDf}
 use Rattle.derivations.proofs.Taken.{taken}

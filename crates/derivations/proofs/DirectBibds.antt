@@ -4,6 +4,7 @@ use Rattle.std.proofs.Common.{◌≡◌, ◌≢◌, ℕ, ◌+◌, ◌-◌, ◌/�
 use Rattle.std.specs.Prelude.{nat_lt}
 use Rattle.std.proofs.lemmas.Bool.{eqb-true, leb-true}
 use Rattle.std.proofs.lemmas.Bool.Decides.{nat_tests}
+use Rattle.counting.proofs.Counts.{both}
 use Rattle.counting.specs.Division.{divides}
 use Rattle.counting.specs.Search.{◌<=◌}
 use Rattle.design_base.specs.Blocks.{IsBibd}
@@ -34,7 +35,7 @@ use Rattle.gdd_pbd.proofs.BasicDesigns.{pairs_is_bibd, whole_is_bibd}
 use Rattle.gdd_pbd.proofs.Complements.{omit_is_bibd}
 use Rattle.rule_terms.specs.BibdTerms.{bibd_terms}
 use Rattle.rule_terms.specs.Terms.{allows, premises_at}
-use Rattle.rule_terms.proofs.Bounds.{bibd_bounds, both}
+use Rattle.rule_terms.proofs.Bounds.{bibd_bounds}
 use Rattle.derivations.specs.BibdBlocks.{CanBuildBibd}
 use Rattle.derivations.specs.DirectBibds.{AreTriples, direct_blocks, CanBuildDirect}
 use Rattle.derivations.proofs.Sizes.{sized, CanOf}

@@ -5,6 +5,7 @@ use Rattle.std.specs.Prelude.{nat_lt}
 use Rattle.std.proofs.Math.Nat.{div-add-mod', mul-mod_right}
 use Rattle.std.proofs.lemmas.Bool.{eqb-true}
 use Rattle.std.proofs.lemmas.Bool.Decides.{nat_tests}
+use Rattle.counting.proofs.Counts.{both}
 use Rattle.counting.specs.Division.{divides}
 use Rattle.counting.specs.Search.{◌<=◌}
 use Rattle.design_base.specs.Blocks.{IsBibd, IsGdd, across}
@@ -22,7 +23,7 @@ use Rattle.gdd_pbd.proofs.Filled.{split_is_gdd}
 use Rattle.gdd_pbd.proofs.Weighted.{weight_is_gdd}
 use Rattle.rule_terms.specs.GddTerms.{gdd_terms}
 use Rattle.rule_terms.specs.Terms.{allows, premises_at}
-use Rattle.rule_terms.proofs.Bounds.{bibd_bounds, gdd_bounds, both}
+use Rattle.rule_terms.proofs.Bounds.{bibd_bounds, gdd_bounds}
 use Rattle.derivations.specs.AllMeet.{AllMeet}
 use Rattle.derivations.specs.GddBlocks.{gdd_blocks, CanBuildGdd}
 use Rattle.derivations.proofs.Ingredients.{ingredient_design}

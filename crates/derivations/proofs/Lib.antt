@@ -9,7 +9,6 @@ pub mod Ingredients
 pub mod GddBlocks
 pub mod PbdBlocks
 pub mod Meeting
-pub mod Same
 pub mod Fine
 pub mod Replays
 pub mod Numbers

@@ -5,6 +5,7 @@ use Rattle.std.specs.Prelude.{nat_lt}
 use Rattle.std.proofs.Math.Nat.{div-add-mod', mul-le-mul_left}
 use Rattle.std.proofs.lemmas.Bool.{eqb-true}
 use Rattle.std.proofs.lemmas.Bool.Decides.{nat_tests}
+use Rattle.counting.proofs.Counts.{both}
 use Rattle.counting.specs.Division.{divides}
 use Rattle.counting.specs.Search.{◌<=◌}
 use Rattle.design_base.specs.Blocks.{IsBibd}
@@ -30,7 +31,7 @@ use Rattle.gdd_pbd.proofs.FromPbdNeeds.{first_can, second_can}
 use Rattle.gdd_pbd.specs.Conditions.{CanPbdToBibd}
 use Rattle.rule_terms.specs.BibdTerms.{bibd_terms}
 use Rattle.rule_terms.specs.Terms.{allows, premises_at}
-use Rattle.rule_terms.proofs.Bounds.{bibd_bounds, both}
+use Rattle.rule_terms.proofs.Bounds.{bibd_bounds}
 use Rattle.derivations.specs.BibdBlocks.{CanBuildBibd}
 use Rattle.derivations.specs.MadeBibds.{made_blocks, CanBuildMade}
 use Rattle.derivations.proofs.Sizes.{sized, CanOf}

@@ -1,5 +1,6 @@
 -- Each candidate makes, of block lists that meet its premises, a block list that meets its question.
 use Rattle.std.proofs.Common.{◌≡◌, ℕ, List, true}
+use Rattle.counting.proofs.Counts.{both}
 use Rattle.design_base.specs.Limits.{in_bounds}
 use Rattle.design_base.specs.Meets.{Meets}
 use Rattle.design_base.specs.Rules.{kind_of, serves}
@@ -9,7 +10,6 @@ use Rattle.design_base.specs.declared.query.Query.TheVariants.{Td, Df, Bibd, Gdd
 use Rattle.rule_table.specs.Candidates.{is_candidate, premises, four}
 use Rattle.rule_terms.specs.Table.{terms}
 use Rattle.rule_terms.specs.Terms.{allows}
-use Rattle.rule_terms.proofs.Bounds.{both}
 use Rattle.derivations.specs.AllMeet.{AllMeet}
 use Rattle.derivations.specs.Blocks.{blocks, built, CanBuild}
 use Rattle.derivations.proofs.BibdBlocks.{bibd_can_build, bibd_meets}

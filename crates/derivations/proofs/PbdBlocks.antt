@@ -3,6 +3,7 @@
 use Rattle.std.proofs.Common.{◌≡◌, ℕ, ◌+◌, ◌-◌, ◌*◌, ◌/◌, ◌≤◌, ◌⊎◌, inl, inr, ◌==◌, ◌&&◌, ◌||◌, Bool, true, false, if◌then◌else◌, List, [], ◌∷◌, None, Some, arith, refl, subst, sym}
 use Rattle.std.proofs.lemmas.Bool.{cases_eq, leb-true}
 use Rattle.std.proofs.lemmas.Bool.Decides.{nat_tests}
+use Rattle.counting.proofs.Counts.{both}
 use Rattle.counting.specs.Search.{◌<=◌}
 use Rattle.design_base.specs.Blocks.{IsPbd}
 use Rattle.design_base.specs.Canonical.{canonical}
@@ -19,7 +20,7 @@ use Rattle.gdd_pbd.proofs.FilledWithPoint.{td_fill_with_point_is_pbd}
 use Rattle.gdd_pbd.proofs.Truncated.{truncate_is_pbd}
 use Rattle.rule_terms.specs.PbdTerms.{pbd_terms}
 use Rattle.rule_terms.specs.Terms.{allows, premises_at}
-use Rattle.rule_terms.proofs.Bounds.{bibd_bounds, pbd_bounds, both}
+use Rattle.rule_terms.proofs.Bounds.{bibd_bounds, pbd_bounds}
 use Rattle.derivations.specs.AllMeet.{AllMeet}
 use Rattle.derivations.specs.PbdBlocks.{pbd_blocks, CanBuildPbd}
 use Rattle.derivations.proofs.Ingredients.{ingredient_design}

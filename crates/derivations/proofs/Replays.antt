@@ -3,18 +3,18 @@ use Rattle.std.proofs.Common.{◌≡◌, ℕ, zero, suc, ◌+◌, ◌-◌, ◌<�
 use Rattle.std.proofs.lemmas.List.{append-nil}
 use Rattle.std.specs.Prelude.{Option, Some, None, slice_get, slice_index_or}
 use Rattle.std.specs.List.{list_all}
+use Rattle.counting.proofs.Counts.{both}
 use Rattle.design_base.specs.declared.query.Query.{Query}
 use Rattle.design_base.specs.Limits.{in_bounds}
 use Rattle.design_base.specs.Meets.{Meets}
-use Rattle.derivations.specs.Same.{same_query}
+use Rattle.design_base.specs.Same.{same_query}
 use Rattle.rule_table.specs.Candidates.{premises}
-use Rattle.rule_terms.proofs.Bounds.{both}
 use Rattle.derivations.specs.Blocks.{blocks}
 use Rattle.derivations.specs.AllMeet.{AllMeet}
 use Rattle.derivations.specs.declared.line.Line.{Line}
 use Rattle.derivations.specs.Derivations.{comes_before, question_at, answers, lists_named, lists_from, replayed, IsSound, last_question, fault}
 use Rattle.derivations.proofs.Numbers.{before_of}
-use Rattle.derivations.proofs.Same.{query_same}
+use Rattle.design_base.proofs.Same.{query_same}
 use Rattle.derivations.proofs.Meeting.{step_meets}
 use Rattle.derivations.proofs.Fine.{AreFine, all_fine}
 

@@ -5,11 +5,11 @@ use Rattle.std.specs.List.{list_all}
 use Rattle.std.proofs.Math.Seq.{get_or-append_seam, take-length}
 use Rattle.std.proofs.lemmas.Bool.{cases_lt}
 use Rattle.std.proofs.lemmas.List.{append-nil, drop_all, get_or_append_left}
+use Rattle.counting.proofs.Counts.{both}
 use Rattle.counting.specs.Search.{is_among}
 use Rattle.design_base.specs.declared.query.Query.{Query}
 use Rattle.design_base.specs.Meets.{Meets}
 use Rattle.rule_table.specs.Candidates.{premises}
-use Rattle.rule_terms.proofs.Bounds.{both}
 use Rattle.derivations.specs.declared.line.Line.{Line}
 use Rattle.derivations.specs.Blocks.{blocks}
 use Rattle.derivations.specs.AllMeet.{AllMeet}

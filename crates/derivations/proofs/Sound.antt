@@ -10,7 +10,7 @@ use Rattle.design_base.specs.declared.verdict.Verdict.{Verdict}
 use Rattle.design_base.specs.declared.verdict.Verdict.TheVariants.{Yes, No, Unknown}
 use Rattle.design_base.specs.Limits.{in_bounds}
 use Rattle.design_base.specs.Steps.{Step}
-use Rattle.derivations.specs.Same.{same_query}
+use Rattle.design_base.specs.Same.{same_query}
 use Rattle.rule_table.specs.Candidates.{is_candidate, premises}
 use Rattle.rule_terms.specs.Rank.{rank}
 use Rattle.rule_table.specs.Verdicts.{verdict, is_yes}
@@ -22,7 +22,7 @@ use Rattle.derivations.specs.declared.line.LineFault.TheVariants.{Surplus}
 use Rattle.design_base.specs.Meets.{Meets}
 use Rattle.derivations.specs.Derivations.{replayed}
 use Rattle.derivations.proofs.Replays.{replayed_meets}
-use Rattle.derivations.proofs.Same.{query_is}
+use Rattle.design_base.proofs.Same.{query_is}
 use Rattle.derivations.proofs.Fine.{AreFine, named_by, fine_goes_on}
 use Rattle.derivations.proofs.Numbers.{In, repeats, once_used, in_cons, in_head, in_tail, in_nil, once_cons, once_head, once_tail, backward_of}
 

@@ -3,15 +3,15 @@ use Rattle.std.proofs.Common.{◌≡◌, ℕ, suc, ◌+◌, ◌<◌, ◌≤◌, 
 use Rattle.std.specs.Prelude.{All, Option, Some, None}
 use Rattle.std.specs.List.{AllByRecursion, list_all}
 use Rattle.std.proofs.lemmas.Bool.Decides.{nat_tests}
+use Rattle.counting.proofs.Counts.{both}
 use Rattle.design_base.specs.Limits.{HasFewDigits}
 use Rattle.design_base.specs.declared.limits.TheConstants.{DIGITS_MAX, PREMISES_MAX}
 use Rattle.design_base.specs.declared.query.Query.{Query}
-use Rattle.rule_terms.proofs.Bounds.{both}
 use Rattle.rule_table.proofs.Passing.{premises_few}
 use Rattle.rule_table.proofs.Spelled.{candidate_kind}
 use Rattle.rule_table.specs.Candidates.{premises}
 use Rattle.derivations.specs.Derivations.{IsSound, answers, comes_before, fault, question_at}
-use Rattle.derivations.specs.Same.{same_query}
+use Rattle.design_base.specs.Same.{same_query}
 use Rattle.derivations.specs.Spelled.{ArePrintable, IsSpellable}
 use Rattle.derivations.specs.declared.line.Line.{Line}
 use Rattle.derivations.proofs.Fine.{AreFine, IsFine, all_fine}

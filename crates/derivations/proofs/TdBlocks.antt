@@ -2,6 +2,7 @@
 -- lemma, and a case to `td_can_build` and to `td_meets`.
 use Rattle.std.proofs.Common.{◌≡◌, ℕ, ◌+◌, ◌-◌, ◌*◌, ◌/◌, ◌==◌, ◌&&◌, ◌≤◌, true, List, [], ◌∷◌, arith, max, subst, sym}
 use Rattle.std.proofs.lemmas.Bool.Decides.{nat_tests}
+use Rattle.counting.proofs.Counts.{both}
 use Rattle.counting.specs.Search.{◌<=◌}
 use Rattle.design_base.specs.Blocks.{IsTd}
 use Rattle.design_base.specs.Canonical.{canonical}
@@ -16,7 +17,7 @@ use Rattle.wilson.specs.Truncations.{wilson_one_blocks, wilson_two_blocks}
 use Rattle.wilson.proofs.Designs.{wilson_one_design, wilson_two_design}
 use Rattle.rule_terms.specs.TdTerms.{td_terms}
 use Rattle.rule_terms.specs.Terms.{allows, premises_at}
-use Rattle.rule_terms.proofs.Bounds.{td_bounds, both}
+use Rattle.rule_terms.proofs.Bounds.{td_bounds}
 use Rattle.derivations.specs.AllMeet.{AllMeet}
 use Rattle.derivations.specs.TdBlocks.{td_blocks, CanBuildTd}
 use Rattle.derivations.proofs.Taken.{taken}

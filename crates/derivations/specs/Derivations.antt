@@ -7,7 +7,7 @@ use Rattle.design_base.specs.declared.query.Query.{Query}
 use Rattle.design_base.specs.declared.verdict.Verdict.{Verdict}
 use Rattle.design_base.specs.declared.verdict.Verdict.TheVariants.{Yes, No, Unknown}
 use Rattle.design_base.specs.Limits.{in_bounds}
-use Rattle.derivations.specs.Same.{same_query}
+use Rattle.design_base.specs.Same.{same_query}
 use Rattle.design_base.specs.Steps.{Step}
 use Rattle.rule_table.specs.Candidates.{is_candidate, premises}
 use Rattle.rule_terms.specs.Rank.{rank}

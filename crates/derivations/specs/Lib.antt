@@ -1,4 +1,3 @@
-pub mod Same
 pub mod TdBlocks
 pub mod Sizes
 pub mod DirectBibds

@@ -3,19 +3,11 @@ ghost use Rattle.std.specs.Prelude.{◌≡◌, ℕ, ◌+◌, ◌<◌, ◌≤◌,
 ghost use Rattle.std.specs.List.{list_all};
 ghost use Rattle.derivations.specs.Derivations.{answers, comes_before, used_twice, fault_of_line as fault_of, surplus_from, fault};
 ghost use Rattle.derivations.specs.Marks.{Marks};
-ghost use Rattle.derivations.specs.Same.{same_query};
 
 use crate::line::{Fault, Line, LineFault};
-use design_base::{Memory, Query, in_bounds};
+use design_base::{Memory, Query, in_bounds, is_same};
 use rule_table::{Tools, is_candidate, premises};
 use std::alloc::Global;
-
-// Whether two questions are the same.
-fn is_same(p: &Query, q: &Query) -> bool
-    ensures { result ≡ same_query p.now q.now }
-{
-    p == q
-}
 
 // Whether the lines that are named have the premises as their questions, in order and one each.
 fn is_answered(lines: &[Line], from: &[u64], premises: &[Query]) -> bool

@@ -11,5 +11,6 @@ pub mod RuleOrder
 pub mod Samples
 pub mod Geometries
 pub mod Bounds
+pub mod Same
 pub mod Coding
 pub mod Numbering

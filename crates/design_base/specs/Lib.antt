@@ -7,6 +7,7 @@ pub mod Polynomials
 pub mod Digits
 pub mod Fields
 pub mod Limits
+pub mod Same
 pub mod Rules
 pub mod Steps
 pub mod Meets

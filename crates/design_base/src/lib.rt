@@ -17,7 +17,9 @@ pub use limits::{
     PACKED_MAX, PARAMETER_MAX, PBD_S_MAX, POINTS_MAX, PREMISES_MAX, TD_K_MAX, TD_N_MAX,
     WORKERS_MAX, WORKLOAD_MAX,
 };
-pub use query::{FIELD_ORDERS, Group, Query, TableAsk, in_bounds, is_field_order, is_within};
+pub use query::{
+    FIELD_ORDERS, Group, Query, TableAsk, in_bounds, is_field_order, is_same, is_within,
+};
 pub use refusal::Memory;
 pub use rule::{Kind, RULES, Rule, RuleTitle, rule_at, rule_named};
 pub use step::Step;

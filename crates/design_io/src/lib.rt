@@ -18,7 +18,7 @@ pub use history::History;
 pub use lines::{LineEnd, LineReader};
 pub use memory::{MemorySink, MemorySource};
 pub use reading::{ReadEnd, read_all};
-pub use split::{FirstLine, split_line};
+pub use split::{FirstLine, split_line, without_return};
 pub use standard::{StdSink, StdSource};
 pub use streams::{Failed, Sink, Source};
 pub use writing::write_whole;

@@ -1,6 +1,5 @@
 //! Lines of a source.
 ghost use Rattle.std.specs.Prelude.{◌≡◌, ◌+◌, ℕ, min, ◌<◌, ◌≤◌, false, true, length, IfOk, IfErr, IfSome, IsErrOf, IsTrue, None, Ok, OnErr, OnOk};
-ghost use Rattle.std.specs.Str.Lines.{strip_carriage_return};
 ghost use Rattle.std.specs.Io.KnownBytes.{prepend_known};
 ghost use Rattle.std.specs.Io.BufRead.{Rests};
 ghost use types.Logic.{sem};
@@ -10,6 +9,7 @@ ghost use Rattle.design_io.specs.InputLines.{Advances, GivesFrom, content_of, fa
 ghost use Rattle.design_io.specs.contracts.lines.LineReader.{the_row};
 
 use crate::Source;
+use crate::split::without_return;
 use crate::window::Window;
 use design_base::LINE_MAX;
 use std::marker::Model;
@@ -56,16 +56,6 @@ impl Model for LineReader {
     } };
 
     ghost invariant = { λ r. (r.span ≤ r.size) × (r.size ≤ r.span + 1) × (r.size ≤ length r.window) × (r.lines + r.room < MAX) };
-}
-
-// A line without the one carriage return that may be its last byte.
-fn without_return(line: &[u8]) -> &[u8]
-    ensures { result.now ≡ strip_carriage_return line.now }
-{
-    match line {
-        [rest @ .., b'\r'] => rest,
-        _ => line,
-    }
 }
 
 // How long a line is with its line feed, which stands at this place where it is held.

@@ -1,6 +1,7 @@
 //! The lines of a text at hand.
 ghost use Rattle.std.specs.Prelude.{◌≡◌, ◌+◌, ◌<◌, ◌≤◌, [], ◌∷◌, IfSome, MatchOption, drop, length, nat_lt, take};
 ghost use Rattle.std.specs.List.{position_or_len};
+ghost use Rattle.std.specs.Str.Lines.{strip_carriage_return};
 ghost use Rattle.design_io.specs.InputLines.{is_feed, lines_of};
 
 /// The first line of a text without its line feed, whether a line feed ends it, and what stands behind that.
@@ -9,6 +10,16 @@ pub struct FirstLine<'a> {
     pub bytes: &'a [u8],
     pub is_ended: bool,
     pub rest: &'a [u8],
+}
+
+/// A line without the one carriage return that may be its last byte.
+pub fn without_return(line: &[u8]) -> &[u8]
+    ensures { result.now ≡ strip_carriage_return line.now }
+{
+    match line {
+        [rest @ .., b'\r'] => rest,
+        _ => line,
+    }
 }
 
 /// The place of the first line feed, or the length where there is none.

@@ -10,19 +10,8 @@ use Rattle.design_base.specs.declared.limits.TheConstants.{POINTS_MAX}
 use Rattle.difference_sets.specs.Families.{coset, cosets, with_zero}
 use Rattle.field_tables.proofs.GeneratorPowers.{power-add}
 use Rattle.field_tables.proofs.Generators.{listed_generator}
-use Rattle.field_tables.proofs.Listed.{listed_field, listed_small}
+use Rattle.field_tables.proofs.Listed.{listed_field, listed_small, order_above}
 use Rattle.field_tables.specs.Powers.{power}
-
-pub power_none : (mul : ℕ → ℕ → ℕ) (g : ℕ) → power mul g 0 ≡ 1
-unfolding power
-power_none mul g = refl
-
-pub power_more : (mul : ℕ → ℕ → ℕ) (g n : ℕ) → power mul g (n + 1) ≡ mul (power mul g n) g
-unfolding power
-power_more mul g n = ap (power mul g) (let e : n + 1 ≡ suc n = omega arith in e)
-
-pub order_above : (q : ℕ) → has_field q ≡ true → 1 < q
-order_above q listed = (listed_field q listed).ring.one_below
 
 pub generator_small : (q : ℕ) → has_field q ≡ true → gen q < q
 generator_small q listed = (listed_generator q listed).small
@@ -101,4 +90,4 @@ rows_fit q e f z m i some whole small inside l =
     let most : e * z ≤ e * 1 = mul-le-mul_left e small in
     omega (arith, all, most, whole, (are_few q e f some whole).many)
 
-pub ruleset steps = (append-nil, append_assoc, power_none, power_more, order_above, generator_small, cosets_none, cosets_more)
+pub ruleset steps = (append-nil, append_assoc, order_above, generator_small, cosets_none, cosets_more)

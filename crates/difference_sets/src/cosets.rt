@@ -3,27 +3,12 @@ ghost use Rattle.std.specs.Prelude.{◌≡◌, ◌+◌, ◌<◌, ◌≤◌, ◌+
 ghost use Rattle.design_base.specs.Fields.{field_product, gen, has_field};
 ghost use Rattle.difference_sets.specs.Conditions.{CanBuildCosets};
 ghost use Rattle.difference_sets.specs.Families.{coset, field_cosets, with_zero};
-ghost use Rattle.field_tables.specs.Powers.{power as power_of};
 ghost use Rattle.incidence.specs.Packed.{size_of};
 
 use design_base::{Memory, PACKED_MAX, POINTS_MAX};
 use field_tables::Field;
 use incidence::Rows;
 use std::alloc::Global;
-
-// The `n`-th power of the least generator.
-#[tactic(auto, using(crate::proofs::CosetSteps::steps))]
-fn power(field: &Field, n: u16) -> u16
-    requires { has_field field.now ≡ true }
-    ensures value { result ≡ power_of (field_product field.now) (gen field.now) n }
-    ensures below { result < field.now }
-{
-    let mut power = 1;
-    for _ in 0..n {
-        power = field.mul(power, field.least_generator());
-    }
-    power
-}
 
 // Appends the `f` powers from g ^ i on, each by `e` more, and 0 too where `z` is 1.
 #[tactic(auto, using(crate::proofs::CosetSteps::steps))]
@@ -35,8 +20,9 @@ fn push_coset(rows: &mut Rows, field: &Field, z: u16, e: u16, f: u16, i: u16) ->
     ensures ok { OnOk result (rows.new ≡ rows.old ++ with_zero z (coset (field_product field.now) (gen field.now) e f i) ∷ []) }
     ensures size { OnOk result (size_of rows.new ≡ size_of rows.old + f + z + 1) }
 {
-    let step = power(field, e);
-    let mut element = power(field, i);
+    let generator = field.least_generator();
+    let step = field.power(generator, e);
+    let mut element = field.power(generator, i);
     let mut row = [0; POINTS_MAX as usize];
     for j in 0..f {
         row[(z + j) as usize] = element;

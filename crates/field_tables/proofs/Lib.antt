@@ -13,5 +13,6 @@ pub mod Values
 pub mod Fill
 pub mod Marks
 pub mod GroupSums
+pub mod PowerSteps
 pub mod GeneratorPowers
 pub mod Generators

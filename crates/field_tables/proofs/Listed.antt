@@ -128,6 +128,10 @@ listed_field q h = by (modulus_of q) refl h
     by None e h = absurd (let g = h in cc)
     by (Some s) e h = (modulus_known q s e).field
 
+-- a field has 0 and 1
+pub order_above : (q : ℕ) → has_field q ≡ true → 1 < q
+order_above q listed = (listed_field q listed).ring.one_below
+
 -- no larger order is listed
 pub listed_small : (q : ℕ) → has_field q ≡ true → q ≤ POINTS_MAX
 listed_small q h = by (modulus_of q) refl h

@@ -1,6 +1,7 @@
 ghost use Rattle.std.specs.Prelude.{IfOk, length, slice_index_or, false, true, ◌<◌, ◌≡◌, ℕ};
 ghost use Rattle.counting.specs.Search.{is_among};
 ghost use Rattle.design_base.specs.Fields.{field_product, field_sum, gen, has_field, is_generator, powers as powers_of};
+ghost use Rattle.field_tables.specs.Powers.{power as power_of};
 ghost use Rattle.field_tables.specs.Tables.{IsListed, IsSolved};
 
 use crate::polynomial::Polynomial;
@@ -92,6 +93,20 @@ impl Field {
         ensures below { result < self.now }
     {
         self.inverses[x as usize] as u16
+    }
+
+    /// The `n`-th power of an element, which is 1 where `n` is 0.
+    #[tactic(auto, using(crate::proofs::PowerSteps::power_steps))]
+    pub fn power(&self, x: u16, n: u16) -> u16
+        requires { x < self.now }
+        ensures value { result ≡ power_of (field_product self.now) x n }
+        ensures below { result < self.now }
+    {
+        let mut power = 1;
+        for _ in 0..n {
+            power = self.ring.mul(power, x);
+        }
+        power
     }
 
     /// The least element whose powers are all elements but 0.

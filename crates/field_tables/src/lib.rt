@@ -29,7 +29,8 @@ mod tests {
         Ok(())
     }
 
-    // The order, two elements, their sum and their product, the inverse of the first, and the least generator.
+    // The order, two elements, their sum and their product, the inverse of the first, and the least generator. The power of an
+    // element by the number of all elements but 0 is 1.
     #[test]
     fn computes_in_fields(rt: HostRuntime) -> Result<(), Fail> {
         let fields = Fields::open(rt.alloc())?;
@@ -50,6 +51,7 @@ mod tests {
             assert_eq!(rt; field.add(x, y), sum);
             assert_eq!(rt; field.mul(x, y), product);
             assert_eq!(rt; field.inv(x), inverse);
+            assert_eq!(rt; field.power(x, q - 1), 1);
             assert_eq!(rt; field.add(field.neg(x), x), 0);
             assert_eq!(rt; field.least_generator(), generator);
         }

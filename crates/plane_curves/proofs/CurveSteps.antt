@@ -1,6 +1,6 @@
 -- How the points of curves are listed, number by number.
 use Rattle.std.proofs.Common.{Bool, List, [], ap, arith, cond, false, inl, inr, refl, suc, sym, true, ℕ, ◌&&◌, ◌++◌, ◌+◌, ◌-◌, ◌<◌, ◌==◌, ◌^◌, ◌∙◌, ◌∷◌, ◌≡◌, ◌≢◌, ◌≤◌}
-use Rattle.std.proofs.Math.Nat.{pow-le-pow_left}
+use Rattle.std.proofs.Math.Nat.{pow-le-pow_left, pow-le-pow_right}
 use Rattle.std.proofs.lemmas.Bool.{and_parts, cases_eq, eq-eqb, eqb-true}
 use Rattle.std.proofs.lemmas.List.{append-nil, map-append}
 use Rattle.std.proofs.lemmas.List.Elements.{filter-append}
@@ -10,21 +10,12 @@ use Rattle.counting.specs.Search.{upward}
 use Rattle.counting.specs.Sums.{list_below}
 use Rattle.design_base.specs.Fields.{has_field}
 use Rattle.field_tables.proofs.Listed.{listed_small}
-use Rattle.field_tables.specs.Powers.{power}
 use Rattle.spaces.proofs.Bounds.{order_above}
 use Rattle.spaces.proofs.PointSteps.{points_below-left, points_below-none, points_below-taken}
 use Rattle.spaces.specs.Points.{lead, points_below}
 use Rattle.plane_curves.proofs.Arcs.{lead_first, on_arc_first}
 use Rattle.plane_curves.specs.Curves.{is_on_arc}
 use Rattle.plane_curves.specs.Secants.{curve_points, entries}
-
-pub power_none : (mul : ℕ → ℕ → ℕ) (g : ℕ) → power mul g 0 ≡ 1
-unfolding power
-power_none mul g = refl
-
-pub power_more : (mul : ℕ → ℕ → ℕ) (g n : ℕ) → power mul g (n + 1) ≡ mul (power mul g n) g
-unfolding power
-power_more mul g n = ap (power mul g) (let e : n + 1 ≡ suc n = omega arith in e)
 
 module _ (q : ℕ) (curve : ℕ → Bool) where
   pub curve_points-none : curve_points q curve 0 ≡ []
@@ -69,6 +60,8 @@ cube_fits q listed =
 pub upward_all : (q : ℕ) → 0 < q → upward 0 (q - 1) ≡ list_below q (λ x. x)
 upward_all q some = ap (λ n. list_below n (λ i. 0 + i)) (let e : q - 1 + 1 - 0 ≡ q = omega arith in e) ∙ join_below-same q _ _ (λ i l. ap (λ x. x ∷ []) (omega arith))
 
-pub ruleset power_steps = (power_none, power_more, order_above)
+-- powers of 2
+pub power_small : (n : ℕ) → n ≤ 14 → 2 ^ n ≤ 2 ^ 14
+power_small n h = pow-le-pow_right (let e : 0 < 2 = omega arith in e) h
 
 pub ruleset curve_steps = (append-nil, order_above, cube_fits, curve_points-none, point-taken, point-left, arc-taken, curve_points-off)

@@ -11,29 +11,14 @@ use design_base::Memory;
 use field_tables::Field;
 use std::alloc::Global;
 
-// The `n`-th power of an element.
-#[tactic(auto, using(crate::proofs::CurveSteps::power_steps))]
-fn power(field: &Field, x: u16, n: u16) -> u16
-    requires listed { has_field field.now ≡ true }
-    requires below { x < field.now }
-    ensures value { result ≡ power_of (field_product field.now) x n }
-    ensures below { result < field.now }
-{
-    let mut power = 1;
-    for _ in 0..n {
-        power = field.mul(power, x);
-    }
-    power
-}
-
 // The sum of the `n`-th powers of the entries.
 fn power_sum(field: &Field, x: Vector, n: u16) -> u16
     requires listed { has_field field.now ≡ true }
     requires over { IsOver field.now x }
     ensures { result ≡ field_sum field.now (power_of (field_product field.now) x.a n) (field_sum field.now (power_of (field_product field.now) x.b n) (power_of (field_product field.now) x.c n)) }
 {
-    let rest = field.add(power(field, x.b, n), power(field, x.c, n));
-    field.add(power(field, x.a, n), rest)
+    let rest = field.add(field.power(x.b, n), field.power(x.c, n));
+    field.add(field.power(x.a, n), rest)
 }
 
 // The number of vectors.
@@ -45,7 +30,7 @@ fn vector_count(field: &Field) -> u32
 }
 
 // Whether the vector of a number is a point at which the sum of the `n`-th powers of the entries is 0.
-#[tactic(auto, using(crate::proofs::CurveSteps::power_steps), unfolding(crate::specs::Curves::is_power_zero, crate::specs::Secants::entries, spaces::specs::Points::lead))]
+#[tactic(auto, unfolding(crate::specs::Curves::is_power_zero, crate::specs::Secants::entries, spaces::specs::Points::lead))]
 fn is_power_point(field: &Field, n: u16, z: u32) -> bool
     requires { has_field field.now ≡ true }
     ensures { result ≡ (lead_of field.now 3 z == 1 && is_power_zero (field_sum field.now) (field_product field.now) field.now n z) }

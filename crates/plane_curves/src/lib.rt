@@ -42,9 +42,10 @@ pub fn unital(alloc: Global, q: u16) -> Result<Rows, Memory>
     Ok(rows)
 }
 
-// 2 ^ n
-fn power_of_two(n: u16) -> u16
-    requires { n ≤ 7 }
+/// 2 ^ `n`, where `n` is at most 14.
+#[tactic(auto, using(crate::proofs::CurveSteps::power_small))]
+pub fn power_of_two(n: u16) -> u16
+    requires { n ≤ 14 }
     ensures { result ≡ 2 ^ n }
 {
     1 << n

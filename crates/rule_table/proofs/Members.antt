@@ -4,6 +4,7 @@ use Rattle.std.specs.Prelude.{flat_map, filter, if◌then◌else◌, ◌↔◌}
 use Rattle.std.specs.List.{list_all, AllByRecursion, Contains}
 use Rattle.std.proofs.lemmas.Bool.{leb-true}
 use Rattle.std.proofs.lemmas.List.Elements.{Contains-append_left, Contains-append_right}
+use Rattle.counting.proofs.Counts.{both}
 use Rattle.counting.specs.Search.{upward}
 use Rattle.counting.proofs.Upward.{Contains-upward}
 use Rattle.design_base.specs.declared.query.Query.{Query}
@@ -20,7 +21,6 @@ use Rattle.rule_terms.specs.Table.{terms}
 use Rattle.rule_table.specs.Candidates.{candidates, serving, is_candidate, premises, four}
 use Rattle.rule_terms.specs.Rank.{rank}
 use Rattle.rule_terms.specs.Nexts.{IsNext}
-use Rattle.rule_terms.proofs.Bounds.{both}
 use Rattle.rule_table.proofs.Each.{each-passing}
 use Rattle.rule_terms.proofs.Grounded.{IsGrounded}
 use Rattle.rule_table.proofs.Passing.{candidates_are}

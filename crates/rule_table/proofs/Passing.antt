@@ -2,6 +2,7 @@
 use Rattle.std.proofs.Common.{◌≡◌, ℕ, zero, suc, ◌<◌, ◌≤◌, Bool, true, false, ◌&&◌, List, [], ◌∷◌, ◌++◌, arith, refl, map, length, sym, subst}
 use Rattle.std.specs.List.{AllByRecursion, list_all}
 use Rattle.std.proofs.lemmas.Bool.Decides.{nat_tests}
+use Rattle.counting.proofs.Counts.{both}
 use Rattle.counting.specs.Search.{upward}
 use Rattle.design_base.specs.declared.limits.TheConstants.{PREMISES_MAX}
 use Rattle.design_base.specs.declared.query.Query.{Query}
@@ -13,7 +14,6 @@ use Rattle.rule_terms.specs.Terms.{Terms, when◌asks◌, from◌to◌take◌, c
 use Rattle.rule_terms.specs.Table.{terms}
 use Rattle.rule_table.specs.Candidates.{candidates, serving, premises, four, is_candidate}
 use Rattle.rule_terms.specs.Rank.{rank}
-use Rattle.rule_terms.proofs.Bounds.{both}
 use Rattle.rule_terms.proofs.Grounded.{IsGrounded, few_parameters}
 use Rattle.rule_terms.proofs.Rules.{grounded}
 use Rattle.counting.proofs.Upward.{each-upward}

@@ -1,5 +1,6 @@
 -- The rule of a candidate serves its question's kind.
 use Rattle.std.proofs.Common.{◌≡◌, true, refl}
+use Rattle.counting.proofs.Counts.{both}
 use Rattle.design_base.specs.declared.query.Query.{Query}
 use Rattle.design_base.specs.declared.rule.Kind.{Kind}
 use Rattle.design_base.specs.declared.rule.Kind.TheVariants.{Td, Df, Bibd, Gdd, Pbd}
@@ -8,7 +9,6 @@ use Rattle.design_base.specs.Steps.{Step}
 use Rattle.rule_table.specs.Candidates.{four, is_candidate}
 use Rattle.rule_terms.specs.Table.{terms}
 use Rattle.rule_terms.specs.Terms.{allows}
-use Rattle.rule_terms.proofs.Bounds.{both}
 
 pub candidate_serves : (q : Query) (s : Step) → is_candidate q s ≡ true → serves (kind_of q) s.rule ≡ true
 unfolding is_candidate

@@ -2,6 +2,7 @@
 use Rattle.std.proofs.Common.{◌≡◌, ℕ, ◌+◌, ◌-◌, ◌*◌, ◌/◌, ◌<◌, ◌≤◌, true, arith, refl, inl, inr}
 use Rattle.std.proofs.lemmas.Bool.{eqb-true, leb-true, ltb-true, cases_lt}
 use Rattle.std.proofs.Math.Nat.{mul-le-mul, mul-le-mul_left, div-mul-le_self, le-div_iff_mul-le}
+use Rattle.counting.proofs.Counts.{both}
 use Rattle.design_base.specs.declared.limits.TheConstants.{PREMISES_MAX}
 use Rattle.design_base.specs.declared.query.Group.{Group}
 use Rattle.design_base.specs.declared.query.Group.TheVariants.{Cyclic, Field}
@@ -13,7 +14,7 @@ use Rattle.design_base.specs.Rules.{title}
 use Rattle.block_counts.specs.Counts.{replication_number, complement_cover}
 use Rattle.rule_terms.specs.BibdTerms.{bibd_terms}
 use Rattle.rule_terms.specs.Rank.{rank}
-use Rattle.rule_terms.proofs.Bounds.{bibd_bounds, both, gdd_bounds}
+use Rattle.rule_terms.proofs.Bounds.{bibd_bounds, gdd_bounds}
 use Rattle.rule_terms.proofs.Grounded.{IsGrounded}
 use Rattle.rule_terms.proofs.Products.{below_multiple}
 use Rattle.rule_terms.proofs.Ranks.{rank_wide}

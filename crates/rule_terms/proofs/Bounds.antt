@@ -6,10 +6,6 @@ use Rattle.design_base.specs.declared.query.Query.TheVariants.{Bibd, Gdd, Pbd, T
 use Rattle.design_base.specs.Limits.{in_bounds}
 use Rattle.rule_terms.proofs.Products.{factors_within}
 
-pub both : (a b : Bool) → (a && b) ≡ true → (a ≡ true) × (b ≡ true)
-both true b e = (refl, e)
-both false b e = cc
-
 pub record IsTdInBounds (k n : ℕ) : Type 0 where
   pub groups : 2 ≤ k
   pub narrow : k ≤ TD_K_MAX

@@ -1,8 +1,8 @@
 -- The designs on curves meet their questions, so that their lists need no check.
 use Rattle.std.proofs.Common.{Bool, List, ap, arith, false, refl, subst, sym, true, ℕ, ◌&&◌, ◌+◌, ◌-◌, ◌<◌, ◌==◌, ◌^◌, ◌∙◌, ◌≡◌, ◌≤◌}
-use Rattle.std.proofs.Math.Nat.{pow-le-pow_right}
 use Rattle.std.proofs.lemmas.Bool.{eqb-true, leb-true, ltb-true}
 use Rattle.std.specs.Prelude.{nat_lt}
+use Rattle.counting.proofs.Counts.{both}
 use Rattle.counting.specs.Search.{each_passes, first_in, ◌<=◌}
 use Rattle.counting.specs.Sums.{join_below, list_below}
 use Rattle.design_base.specs.Blocks.{IsBibd}
@@ -17,7 +17,6 @@ use Rattle.plane_curves.proofs.CurveDesigns.{arcs, order_few, unitals}
 use Rattle.plane_curves.proofs.ListedArcs.{even_field}
 use Rattle.plane_curves.specs.Conditions.{arc_size}
 use Rattle.plane_curves.specs.Curves.{arc_blocks, unital_blocks}
-use Rattle.rule_terms.proofs.Bounds.{both}
 
 -- a test more that holds where the others do
 also : (a b : Bool) → (a ≡ true → b ≡ true) → a ≡ (a && b)
@@ -64,9 +63,6 @@ pub unital_meets : (v k l q : ℕ) → v ≤ POINTS_MAX →
 unital_meets v k l q few =
     also (k == q + 1 && l == 1 && v == q ^ 3 + 1 && 2 <= q) (has_field (q ^ 2)) (λ e. unital_listed v k l q few (unital_size v k l q e))
     ∙ also (k == q + 1 && l == 1 && v == q ^ 3 + 1 && 2 <= q && has_field (q ^ 2)) (passes_check (Bibd v k l) (unital_blocks q)) (λ e. unital_passes v k l q few (unital_size v k l q (both _ _ e).0))
-
-pub power_small : (n : ℕ) → n ≤ 14 → 2 ^ n ≤ 2 ^ 14
-power_small n h = pow-le-pow_right (let e : 0 < 2 = omega arith in e) h
 
 -- what is asked of the numbers of an arc
 record IsArcSize (v k l r s : ℕ) : Type 0 where

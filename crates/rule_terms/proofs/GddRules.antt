@@ -1,6 +1,7 @@
 -- The rules of group divisible designs are grounded: a case a rule.
 use Rattle.std.proofs.Common.{◌≡◌, ℕ, ◌+◌, ◌-◌, ◌*◌, ◌/◌, ◌^◌, ◌<◌, ◌≤◌, true, ◌||◌, arith, ap, refl, inl, inr}
 use Rattle.std.specs.Prelude.{nat_lt}
+use Rattle.counting.proofs.Counts.{both}
 use Rattle.counting.specs.Division.{divides}
 use Rattle.counting.specs.Search.{◌<=◌}
 use Rattle.std.proofs.lemmas.Bool.{eqb-true, leb-true, cases_lt}
@@ -14,7 +15,7 @@ use Rattle.design_base.specs.Limits.{in_bounds}
 use Rattle.design_base.specs.Rules.{title}
 use Rattle.rule_terms.specs.GddTerms.{gdd_terms}
 use Rattle.rule_terms.specs.Rank.{rank}
-use Rattle.rule_terms.proofs.Bounds.{both, gdd_bounds}
+use Rattle.rule_terms.proofs.Bounds.{gdd_bounds}
 use Rattle.rule_terms.proofs.Grounded.{IsGrounded}
 use Rattle.rule_terms.proofs.Products.{below_multiple}
 use Rattle.rule_terms.proofs.Ranks.{rank_least, rank_most, rank_narrow, rank_wide}

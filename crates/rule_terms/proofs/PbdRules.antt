@@ -2,6 +2,7 @@
 use Rattle.std.proofs.Common.{◌≡◌, ℕ, ◌+◌, ◌*◌, ◌<◌, ◌≤◌, Bool, true, false, [], ◌∷◌, arith, refl}
 use Rattle.std.specs.Prelude.{if◌then◌else◌}
 use Rattle.std.proofs.lemmas.Bool.{eqb-true, leb-true}
+use Rattle.counting.proofs.Counts.{both}
 use Rattle.counting.specs.Search.{◌<=◌}
 use Rattle.design_base.specs.declared.limits.TheConstants.{POINTS_MAX, PREMISES_MAX}
 use Rattle.design_base.specs.declared.query.Query.TheVariants.{Bibd, Pbd, Td}
@@ -11,7 +12,7 @@ use Rattle.design_base.specs.Limits.{in_bounds}
 use Rattle.design_base.specs.Rules.{title}
 use Rattle.rule_terms.specs.PbdTerms.{pbd_terms}
 use Rattle.rule_terms.specs.Rank.{rank}
-use Rattle.rule_terms.proofs.Bounds.{both, pbd_bounds}
+use Rattle.rule_terms.proofs.Bounds.{pbd_bounds}
 use Rattle.rule_terms.proofs.Grounded.{AreGrounded, IsGrounded}
 use Rattle.rule_terms.proofs.Products.{below_multiple}
 

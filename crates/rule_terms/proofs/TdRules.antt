@@ -2,13 +2,14 @@
 use Rattle.std.proofs.Common.{◌≡◌, ℕ, ◌+◌, ◌*◌, ◌<◌, ◌≤◌, arith, refl}
 use Rattle.std.proofs.lemmas.Bool.{eqb-true, leb-true}
 use Rattle.std.proofs.Math.Nat.{mul-le-mul_left, mul-le-mul}
+use Rattle.counting.proofs.Counts.{both}
 use Rattle.design_base.specs.declared.limits.TheConstants.{PREMISES_MAX}
 use Rattle.design_base.specs.declared.rule.Rule.{Rule}
 use Rattle.design_base.specs.declared.rule.Rule.TheVariants.{TdOne, Cyclic, Field, Product, Parker, Wilson1, Wilson2}
 use Rattle.design_base.specs.Rules.{title}
 use Rattle.rule_terms.specs.Rank.{rank}
 use Rattle.rule_terms.specs.TdTerms.{td_terms}
-use Rattle.rule_terms.proofs.Bounds.{td_bounds, both}
+use Rattle.rule_terms.proofs.Bounds.{td_bounds}
 use Rattle.rule_terms.proofs.Grounded.{IsGrounded}
 
 product_smaller : (a b n : ℕ) → 2 ≤ a → a ≤ b → a * b ≡ n → (a < n) × (b < n)

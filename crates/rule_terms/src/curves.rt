@@ -7,6 +7,8 @@ ghost use Rattle.design_base.specs.Fields.{has_field};
 ghost use Rattle.design_checks.specs.Findings.{passes_check};
 ghost use Rattle.plane_curves.specs.Curves.{arc_blocks, unital_blocks};
 
+use plane_curves::power_of_two;
+
 // Whether v is q ^ 3 + 1.
 fn is_cube_and_one(v: u16, q: u16) -> bool
     ensures { result ≡ (v == q ^ 3 + 1) }
@@ -33,15 +35,6 @@ pub(crate) fn is_unital(v: u16, k: u16, l: u16, q: u16) -> bool
     ensures { result ≡ (k == q + 1 && l == 1 && v == q ^ 3 + 1 && 2 <= q && has_field (q ^ 2) && passes_check (Bibd v k l) (unital_blocks q)) }
 {
     has_unital_size(v, k, l, q)
-}
-
-// The power of 2.
-#[tactic(auto, using(crate::proofs::CurveMeets::power_small))]
-fn power_of_two(n: u16) -> u16
-    requires { n ≤ 14 }
-    ensures { result ≡ 2 ^ n }
-{
-    1 << n
 }
 
 // The number of points of the arc over the field of 2 ^ s elements whose lines hold 2 ^ r points.

@@ -12,7 +12,8 @@ pub loop-j-init : goal.loop-j-init
 loop-j-init c = record {
   size = refl;
   elements = row_none c.args.z _ (λ j. power (field_product c.args.field.now) (gen c.args.field.now) (c.args.i + c.args.e * j)) c.requires.zero refl;
-  next = c.power-element.ensures.value ∙ ap (power (field_product c.args.field.now) (gen c.args.field.now)) (omega arith);
+  next = c.power-element.ensures.value ∙ ap (λ g. power (field_product c.args.field.now) g c.args.i) c.least_generator-generator.ensures
+      ∙ ap (power (field_product c.args.field.now) (gen c.args.field.now)) (omega arith);
   below = c.power-element.ensures.below;
 }
 
@@ -25,7 +26,7 @@ loop-j-preserved c = record {
   elements = row_more c.args.z c.loop-j.j c.loop-j.row (λ j. power (field_product c.args.field.now) (gen c.args.field.now) (c.args.i + c.args.e * j)) c.loop-j.element
       (omega (arith, c.loop-j.invariant.size, c.requires.zero, c.requires.few, c.loop-j-test.true, listed_small c.args.field.now c.requires.listed)) c.loop-j.invariant.elements c.loop-j.invariant.next;
   next = c.mul-element.ensures.product ∙ ap (λ x. field_product c.args.field.now x c.power-step.result) c.loop-j.invariant.next
-      ∙ ap (field_product c.args.field.now _) c.power-step.ensures.value
+      ∙ ap (field_product c.args.field.now _) (c.power-step.ensures.value ∙ ap (λ g. power (field_product c.args.field.now) g c.args.e) c.least_generator-generator.ensures)
       ∙ sym (power_by c.args.field.now c.requires.listed c.args.e c.args.i c.loop-j.j);
   below = c.mul-element.ensures.below;
 }
