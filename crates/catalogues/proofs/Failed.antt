@@ -4,7 +4,8 @@ use Rattle.std.specs.Prelude.{None, Option, Result, Some, drop, slice_get}
 use Rattle.std.specs.declared.result.Result.TheVariants.{Err, Ok}
 use Rattle.design_base.specs.declared.query.Query.{Query}
 use Rattle.catalogues.specs.declared.outcome.Rejected.{Rejected}
-use Rattle.catalogues.specs.Consults.{AreUnasked, Begun, Consults, Drops, EndsAtValid, EndsConsult, HasEnded, HasFailed, Reached, Seen, WalksTo}
+use Rattle.catalogues.specs.Entries.{Seen}
+use Rattle.catalogues.specs.Consults.{AreUnasked, Begun, Consults, Drops, EndsAtValid, EndsConsult, HasEnded, HasFailed, Reached, WalksTo}
 use Rattle.catalogues.specs.declared.outcome.Offered.{Offered}
 use Rattle.catalogues.specs.declared.outcome.Offered.TheVariants.{Fit}
 use Rattle.catalogues.specs.declared.catalogue.OfferEnd.{OfferEnd}

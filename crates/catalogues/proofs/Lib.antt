@@ -1,7 +1,11 @@
 pub mod Steps
 pub mod Drops
 pub mod Taken
+pub mod Walks
+pub mod Held
 pub mod Told
+pub mod Found
+pub mod Left
 pub mod Sound
 pub mod Failed
 pub mod Lines

@@ -5,7 +5,8 @@ use Rattle.std.specs.Prelude.{All, None, Option, Result, Some}
 use Rattle.std.specs.declared.result.Result.TheVariants.{Err, Ok}
 use Rattle.design_base.specs.declared.query.Query.{Query}
 use Rattle.catalogues.specs.declared.outcome.Rejected.{Rejected}
-use Rattle.catalogues.specs.Consults.{AreSound, Begun, Consults, IsAnswer, IsUnfit, Notes, Seen, WalksTo}
+use Rattle.catalogues.specs.Entries.{Seen}
+use Rattle.catalogues.specs.Consults.{AreSound, Begun, Consults, IsAnswer, IsUnfit, Notes, WalksTo}
 use Rattle.catalogues.specs.declared.catalogue.OfferEnd.{OfferEnd}
 use Rattle.catalogues.specs.declared.outcome.Offered.{Offered}
 use Rattle.catalogues.specs.declared.outcome.Offered.TheVariants.{Fit, Nothing, Unfit}
@@ -27,7 +28,7 @@ rejected q (suc i) old mid R b = noted q i b.3.asks.was.failures b.3.asks.is.fai
 
 sound_walk : (q : Query) (old new : List Seen) (R : List Rejected) (offer : Option (ℕ × List (List ℕ))) → WalksTo q old new R offer → AreSound q R offer
 sound_walk q old new R None b = record { meets = tt; rejected = rejected q (length old) old new R b }
-sound_walk q old new R (Some p) r = record { meets = r.asks.asks.lawful.1; rejected = rejected q r.place old r.before R r.begun }
+sound_walk q old new R (Some p) r = record { meets = r.asks.asks.lawful.meets; rejected = rejected q r.place old r.before R r.begun }
 
 pub sound : (q : Query) (old new : List Seen) (R : List Rejected) (offer : Option (ℕ × List (List ℕ))) → Consults q old new R offer → AreSound q R offer
 sound q old new R offer c = sound_walk q old c.after R offer c.walks

@@ -7,7 +7,8 @@ use Rattle.std.specs.declared.result.Result.TheVariants.{Err, Ok}
 use Rattle.std.specs.Option.{option_map}
 use Rattle.design_base.specs.declared.query.Query.{Query}
 use Rattle.catalogues.specs.declared.outcome.Rejected.{Rejected}
-use Rattle.catalogues.specs.Consults.{Asks, Begun, EndsWalk, Passed, Reached, Seen, StepAt, Steps, WalksTo}
+use Rattle.catalogues.specs.Entries.{Seen}
+use Rattle.catalogues.specs.Consults.{Asks, Begun, EndsWalk, Passed, Reached, StepAt, Steps, WalksTo}
 use Rattle.catalogues.specs.declared.catalogue.OfferEnd.{OfferEnd}
 use Rattle.catalogues.specs.declared.outcome.Offered.{Offered}
 use Rattle.catalogues.specs.declared.outcome.Offered.TheVariants.{Fit}

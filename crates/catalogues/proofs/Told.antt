@@ -1,59 +1,22 @@
--- Where all catalogues tell their entries, asking them is the walk.
-use Rattle.std.proofs.Common.{List, [], add-one, ap, ap₂, arith, cond, false, inl, inr, length, map, not, refl, subst, suc, sym, true, zero, ℕ, ◌++◌, ◌+◌, ◌∙◌, ◌∷◌, ◌≡◌, ◌≢◌, ◌⊎◌, slice_set, Bool}
+-- Where all catalogues tell their entries, they are afterwards the walk's.
+use Rattle.std.proofs.Common.{List, [], add-one, ap, ap₂, arith, cond, false, inl, inr, length, map, not, refl, subst, suc, sym, true, zero, ℕ, ◌++◌, ◌+◌, ◌∙◌, ◌∷◌, ◌≡◌, ◌⊎◌, slice_set, Bool}
 use Rattle.std.proofs.lemmas.List.{append-nil, append_assoc, drop-drop, length-append, length-map, map-set}
 use Rattle.std.proofs.lemmas.Option.{slice_get-map, slice_get_past}
 use Rattle.std.proofs.Math.Seq.{drop-length}
 use Rattle.std.specs.Option.{option_map}
 use Rattle.std.specs.Prelude.{IfSome, None, Option, Result, Some, drop, filter, slice_get}
 use Rattle.std.specs.declared.result.Result.TheVariants.{Err, Ok}
-use Rattle.design_base.specs.Canonical.{canonical}
 use Rattle.design_base.specs.declared.query.Query.{Query}
-use Rattle.design_checks.specs.Findings.{finding}
-use Rattle.design_checks.specs.declared.finding.Finding.{Finding}
-use Rattle.design_checks.specs.declared.finding.Finding.TheVariants.{BadBlock, BadPair, Valid}
 use Rattle.catalogues.specs.declared.outcome.Rejected.{Rejected}
-use Rattle.catalogues.specs.Consulted.{IsConsulted, Walk, before, offered, refused, walk}
-use Rattle.catalogues.specs.Consults.{Begun, Consults, Drops, IsAnswer, IsToldAnswer, Notes, Passed, Seen, StepAt, WalksTo}
-use Rattle.catalogues.specs.Entries.{IsSpent, no_entry, take_out}
+use Rattle.catalogues.proofs.Held.{all_told, length_told, told_head, told_of}
+use Rattle.catalogues.proofs.Walks.{after, after_before, walk_end, walk_fit, walk_none, walk_unfit}
+use Rattle.catalogues.specs.Consulted.{AreTold, before, consulted, walk}
+use Rattle.catalogues.specs.Consults.{Begun, Consults, Drops, IsAnswer, IsToldAnswer, Notes, Passed, StepAt, WalksTo}
+use Rattle.catalogues.specs.Entries.{IsSpent, Seen, no_entry, take_out}
 use Rattle.catalogues.specs.declared.catalogue.Entry.{Entry}
 use Rattle.catalogues.specs.declared.catalogue.OfferEnd.{OfferEnd}
 use Rattle.catalogues.specs.declared.outcome.Offered.{Offered}
 use Rattle.catalogues.specs.declared.outcome.Offered.TheVariants.{Fit, Nothing, Unfit}
-
-abbrev pub told_of : List Seen → List (Option (List Entry))
-told_of old = map (λ s. s.told) old
-
-abbrev pub all_told : List (List Entry) → List (Option (List Entry))
-all_told lists = map (λ es. Some es) lists
-
--- ---- the walk by one step
-walk_none : (q : Query) (number : ℕ) (es : List Entry) (rest : List (List Entry)) → (take_out q es).blocks ≡ None → walk q number (es ∷ rest) ≡ before [] (take_out q es).entries (walk q (number + 1) rest)
-unfolding walk
-walk_none q number es rest e = ap (λ o. elim o [
-  | None ↦ before [] (take_out q es).entries (walk q (number + 1) rest)
-  | Some B ↦ offered number (canonical B) (take_out q es).entries rest (λ u. walk q (number + 1) rest) (finding q (canonical B))
-]) e
-
-walk_some : (q : Query) (number : ℕ) (es : List Entry) (rest : List (List Entry)) (B : List (List ℕ)) → (take_out q es).blocks ≡ Some B → walk q number (es ∷ rest) ≡ offered number (canonical B) (take_out q es).entries rest (λ u. walk q (number + 1) rest) (finding q (canonical B))
-unfolding walk
-walk_some q number es rest B e = ap (λ o. elim o [
-  | None ↦ before [] (take_out q es).entries (walk q (number + 1) rest)
-  | Some B ↦ offered number (canonical B) (take_out q es).entries rest (λ u. walk q (number + 1) rest) (finding q (canonical B))
-]) e
-
--- an offer that is not valid
-not_valid : (number : ℕ) (C : List (List ℕ)) (es : List Entry) (rest : List (List Entry)) (next : Unit {0} → Walk) (found : Finding) → found ≢ Valid → offered number C es rest next found ≡ refused number found es (next tt)
-not_valid number C es rest next Valid ne = absurd (ne refl)
-not_valid number C es rest next (BadBlock index) ne = refl
-not_valid number C es rest next (BadPair x y count) ne = refl
-
--- what was found and done before a walk
-after : List Rejected → List (List Entry) → Walk → Walk
-after R done w = record { refusals = R ++ w.refusals; valid = w.valid; lists = done ++ w.lists }
-
-after_before : (R S : List Rejected) (done : List (List Entry)) (es : List Entry) (w : Walk) → after R done (before S es w) ≡ after (R ++ S) (done ++ es ∷ []) w
-unfolding after
-after_before R S done es w = ap₂ (λ r l. record { refusals = r; valid = w.valid; lists = l }) (sym (append_assoc R S w.refusals)) (sym (append_assoc done (es ∷ []) w.lists))
 
 -- ---- the place between what is done and what is left
 get_seam : {X : Type 0} (done rest : List X) (x : X) → slice_get (done ++ x ∷ rest) (length done) ≡ Some x
@@ -126,7 +89,7 @@ module _ (q : Query) (i : ℕ) (lists : List (List Entry)) (mid new : List Seen)
   by_answer : (answer : Result Offered OfferEnd) → Place q i lists mid new S answer → IsAnswer q 0 0 answer → Notes i answer S R → Midway q (i + 1) lists new R
   by_answer (Ok Nothing) p lawful n = subst (Midway q (i + 1) lists new) (append-nil S ∙ sym n) (onward q i lists mid new S [] (Ok Nothing) p (take_out q p.es).entries p.lawful.1 (walk_none q (i + 1) p.es p.rest p.lawful.0))
   by_answer (Ok (Unfit found)) p lawful n = let h = p.lawful in subst (Midway q (i + 1) lists new) (sym n) (onward q i lists mid new S ((record { number = i + 1; finding = found }) ∷ []) (Ok (Unfit found)) p (take_out q p.es).entries h.3
-      (walk_some q (i + 1) p.es p.rest h.0 h.1 ∙ ap (offered (i + 1) (canonical h.0) (take_out q p.es).entries p.rest (λ u. walk q (i + 1 + 1) p.rest)) (sym h.2) ∙ not_valid (i + 1) (canonical h.0) (take_out q p.es).entries p.rest (λ u. walk q (i + 1 + 1) p.rest) found lawful.unfit))
+      (walk_unfit q (i + 1) p.es p.rest h.0 found h.1 h.2 lawful.unfit))
   by_answer (Ok (Fit C)) p lawful n = absurd n
   by_answer (Err end) p lawful n = absurd n
 
@@ -148,15 +111,6 @@ begun_told q (suc i) old mid lists R e b = subst (λ n. Midway q n lists mid R) 
 -- ---- the spent catalogues are dropped
 abbrev pub unspent : List (List Entry) → List (List Entry)
 unspent ws = filter (λ es. not (no_entry es)) ws
-
-told_head : (s : Seen) (old : List Seen) (w : List Entry) (ws : List (List Entry)) → told_of (s ∷ old) ≡ all_told (w ∷ ws) → (s.told ≡ Some w) × (told_of old ≡ all_told ws)
-told_head s old w ws e = (heads e, tails e)
-  where
-    heads : s.told ∷ told_of old ≡ Some w ∷ all_told ws → s.told ≡ Some w
-    heads e = cc
-
-    tails : s.told ∷ told_of old ≡ Some w ∷ all_told ws → told_of old ≡ all_told ws
-    tails e = cc
 
 told_drops : (i : ℕ) (old new : List Seen) (ws : List (List Entry)) → told_of old ≡ all_told ws → Drops None i old new → told_of new ≡ all_told (unspent ws)
 unfolding Drops
@@ -190,49 +144,20 @@ told_drops i (s ∷ old) new (w ∷ ws) e (inr d) = let h = told_head s old w ws
     gone false e = cc
 
 -- ---- the end of the walk
-record Walked (q : Query) (lists : List (List Entry)) (new : List Seen) (R : List Rejected) (valid : Option (ℕ × List (List ℕ))) : Type 0 where
-  refusals : R ≡ (walk q 1 lists).refusals
-  valid_one : valid ≡ (walk q 1 lists).valid
-  now : told_of new ≡ all_told (walk q 1 lists).lists
-
-walked_by : (q : Query) (lists : List (List Entry)) (new : List Seen) (R : List Rejected) (valid : Option (ℕ × List (List ℕ))) (w : Walk) → walk q 1 lists ≡ w → R ≡ w.refusals → valid ≡ w.valid → told_of new ≡ all_told w.lists → Walked q lists new R valid
-walked_by q lists new R valid w e r v n = record { refusals = r ∙ ap (λ w. w.refusals) (sym e); valid_one = v ∙ ap (λ w. w.valid) (sym e); now = n ∙ ap (λ w. all_told w.lists) (sym e) }
-
-length_told : (old : List Seen) (lists : List (List Entry)) → told_of old ≡ all_told lists → length old ≡ length lists
-length_told old lists e = sym (length-map old (λ s. s.told)) ∙ ap length e ∙ length-map lists (λ es. Some es)
-
-walk_end : (q : Query) (number : ℕ) → walk q number [] ≡ record { refusals = []; valid = None; lists = [] }
-unfolding walk
-walk_end q number = refl
-
-walked : (q : Query) (old new : List Seen) (lists : List (List Entry)) (R : List Rejected) (valid : Option (ℕ × List (List ℕ))) → told_of old ≡ all_told lists → WalksTo q old new R valid → Walked q lists new R valid
+walked : (q : Query) (old new : List Seen) (lists : List (List Entry)) (R : List Rejected) (valid : Option (ℕ × List (List ℕ))) → told_of old ≡ all_told lists → WalksTo q old new R valid → told_of new ≡ all_told (walk q 1 lists).lists
 unfolding after
 walked q old new lists R None e b =
     let m = begun_told q (length old) old new lists R e b in
     let nothing : drop (length old) lists ≡ [] = ap (λ k. drop k lists) (length_told old lists e) ∙ drop-length lists in
-    walked_by q lists new R None (after R m.done (record { refusals = []; valid = None; lists = [] }))
-    (m.walks ∙ ap (λ left. after R m.done (walk q (length old + 1) left)) nothing ∙ ap (after R m.done) (walk_end q (length old + 1)))
-    (sym (append-nil R)) refl (m.now ∙ ap (λ left. all_told (m.done ++ left)) nothing)
+    m.now ∙ ap (λ left. all_told (m.done ++ left)) nothing
+    ∙ sym (ap (λ w. all_told w.lists) (m.walks ∙ ap (λ left. after R m.done (walk q (length old + 1) left)) nothing ∙ ap (after R m.done) (walk_end q (length old + 1))))
 walked q old new lists R (Some c) e r =
     let p = place_of q r.place lists r.before new R (Ok (Fit c.1)) (begun_told q r.place old r.before lists R e r.begun) r.asks in
     let h = p.lawful in
-    walked_by q lists new R (Some c) (after R p.done (record { refusals = []; valid = Some (r.place + 1, canonical h.0); lists = (take_out q p.es).entries ∷ p.rest }))
-    (p.walks ∙ ap (after R p.done) (walk_some q (r.place + 1) p.es p.rest h.0 h.1 ∙ ap (offered (r.place + 1) (canonical h.0) (take_out q p.es).entries p.rest (λ u. walk q (r.place + 1 + 1) p.rest)) (sym (ap (finding q) h.2) ∙ r.asks.asks.lawful.0)))
-    (sym (append-nil R)) (ap Some (ap₂ (λ n C. (n, C)) r.counts h.2))
-    (p.now ∙ ap (λ o. slice_set (all_told (p.done ++ p.es ∷ p.rest)) r.place o) h.3
+    p.now ∙ ap (λ o. slice_set (all_told (p.done ++ p.es ∷ p.rest)) r.place o) h.3
     ∙ ap (λ k. slice_set (all_told (p.done ++ p.es ∷ p.rest)) k (Some (take_out q p.es).entries)) (sym p.size)
-    ∙ set_seam (λ es. Some es) p.done p.rest p.es (take_out q p.es).entries)
+    ∙ set_seam (λ es. Some es) p.done p.rest p.es (take_out q p.es).entries
+    ∙ sym (ap (λ w. all_told w.lists) (p.walks ∙ ap (after R p.done) (walk_fit q (r.place + 1) p.es p.rest h.0 c.1 h.1 h.2 r.asks.asks.lawful.passes)))
 
-pub told_consults : (q : Query) (old new : List Seen) (lists : List (List Entry)) (R : List Rejected) (valid : Option (ℕ × List (List ℕ))) → told_of old ≡ all_told lists → Consults q old new R valid → IsConsulted q lists new R valid
-told_consults q old new lists R valid e c =
-    let w = walked q old c.after lists R valid e c.walks in
-    record { refusals = w.refusals; valid_one = w.valid_one; now = told_drops 0 c.after new (walk q 1 lists).lists w.now c.drops }
-
--- ---- of catalogues by what is seen of them
-pub told_consults_of : {X : Type 0} (see : X → Seen) (tell : X → Option (List Entry)) (q : Query) (xs : List X) (new : List Seen) (R : List Rejected) (valid : Option (ℕ × List (List ℕ))) → ((x : X) → (see x).told ≡ tell x) → Consults q (map see xs) new R valid →
-    (lists : List (List Entry)) → map tell xs ≡ map (λ es. Some es) lists → IsConsulted q lists new R valid
-told_consults_of {X = X} see tell q xs new R valid same c lists e = told_consults q (map see xs) new lists R valid (each xs ∙ e) c
-  where
-    each : (xs : List X) → told_of (map see xs) ≡ map tell xs
-    each [] = refl
-    each (x ∷ xs) = ap₂ (λ o os. o ∷ os) (same x) (each xs)
+pub told_after : (q : Query) (old new : List Seen) (lists : List (List Entry)) (R : List Rejected) (valid : Option (ℕ × List (List ℕ))) → AreTold old lists → Consults q old new R valid → AreTold new (consulted q lists).lists
+told_after q old new lists R valid e c = told_drops 0 c.after new (walk q 1 lists).lists (walked q old c.after lists R valid e c.walks) c.drops

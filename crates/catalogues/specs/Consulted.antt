@@ -1,14 +1,13 @@
 -- What catalogues that tell their entries offer for a question, and which entries stay.
 use Rattle.std.proofs.Common.{[], ◌++◌, ◌∷◌}
-use Rattle.std.specs.Prelude.{List, None, Option, Some, filter, map, not, ℕ, ◌+◌, ◌≡◌}
+use Rattle.std.specs.Prelude.{IfSome, List, None, Option, Some, filter, map, not, ℕ, ◌+◌, ◌≡◌}
 use Rattle.design_base.specs.Canonical.{canonical}
 use Rattle.design_base.specs.declared.query.Query.{Query}
 use Rattle.design_checks.specs.Findings.{finding}
 use Rattle.design_checks.specs.declared.finding.Finding.{Finding}
 use Rattle.design_checks.specs.declared.finding.Finding.TheVariants.{BadBlock, BadPair, Valid}
 use Rattle.catalogues.specs.declared.outcome.Rejected.{Rejected}
-use Rattle.catalogues.specs.Consults.{Seen}
-use Rattle.catalogues.specs.Entries.{no_entry, take_out}
+use Rattle.catalogues.specs.Entries.{Seen, no_entry, take_out}
 use Rattle.catalogues.specs.declared.catalogue.Entry.{Entry}
 
 -- the refused offers, the valid one with the place of its catalogue, from 1, and the entries afterwards
@@ -42,8 +41,24 @@ walk q number (es ∷ lists) = elim ((take_out q es).blocks) [
 abbrev pub consulted : Query → List (List Entry) → Walk
 consulted q lists = record { refusals = (walk q 1 lists).refusals; valid = (walk q 1 lists).valid; lists = filter (λ es. not (no_entry es)) (walk q 1 lists).lists }
 
--- what was found of catalogues that tell these entries, and what they tell afterwards, is the walk's
-pub record IsConsulted (q : Query) (lists : List (List Entry)) (new : List Seen) (R : List Rejected) (valid : Option (ℕ × List (List ℕ))) : Type 0 where
+-- entries of a catalogue: those that it tells, where it does
+abbrev pub IsHeld : Option (List Entry) → List Entry → Type 0
+IsHeld told es = IfSome told (λ fs. fs ≡ es)
+
+-- a list of entries for each catalogue
+unfoldable pub AreHeld : List Seen → List (List Entry) → Type 0
+AreHeld [] lists = lists ≡ []
+AreHeld (s ∷ old) [] = ⊥
+AreHeld (s ∷ old) (es ∷ lists) = IsHeld s.told es × AreHeld old lists
+
+-- all of them tell their entries, and these are they
+abbrev pub AreTold : List Seen → List (List Entry) → Type 0
+AreTold old lists = map (λ s. s.told) old ≡ map (λ es. Some es) lists
+
+-- there are entries of the catalogues such that what was found is the walk's over them; where all of them tell their entries, what they tell afterwards is the walk's too
+pub record IsConsulted (q : Query) (old new : List Seen) (R : List Rejected) (valid : Option (ℕ × List (List ℕ))) : Type 0 where
+  pub lists : List (List Entry)
+  pub held : AreHeld old lists
   pub refusals : R ≡ (consulted q lists).refusals
   pub valid_one : valid ≡ (consulted q lists).valid
-  pub now : map (λ s. s.told) new ≡ map (λ es. Some es) (consulted q lists).lists
+  pub after : AreTold old lists → AreTold new (consulted q lists).lists

@@ -10,7 +10,7 @@ use Rattle.design_checks.specs.Findings.{finding}
 use Rattle.design_checks.specs.declared.finding.Finding.{Finding}
 use Rattle.design_checks.specs.declared.finding.Finding.TheVariants.{Valid as valid}
 use Rattle.design_io.specs.Faults.{Rose}
-use Rattle.catalogues.specs.Entries.{IsSpent, take_out}
+use Rattle.catalogues.specs.Entries.{IsSpent, Seen, take_out}
 use Rattle.catalogues.specs.declared.catalogue.Entry.{Entry}
 use Rattle.catalogues.specs.declared.catalogue.OfferEnd.{OfferEnd}
 use Rattle.catalogues.specs.declared.catalogue.OfferEnd.TheVariants.{Failed, Memory}
@@ -20,19 +20,18 @@ use Rattle.catalogues.specs.declared.outcome.ConsultEnd.{ConsultEnd}
 use Rattle.catalogues.specs.declared.outcome.ConsultEnd.TheVariants.{Failed as EndFailed, Memory as EndMemory}
 use Rattle.catalogues.specs.declared.outcome.Offered.TheVariants.{Fit, Nothing, Unfit}
 
--- what is seen of a catalogue: its entries, where it tells them, and the count of its failed offers
-pub record Seen : Type 0 where
-  pub told : Option (List Entry)
-  pub failures : ℕ
-
-abbrev pub seen : Option (List Entry) → ℕ → Seen
-seen told failures = record { told = told; failures = failures }
-
 -- this was found of the canonical form of a block list, and it is no design of the question
 pub record IsUnfit (q : Query) (found : Finding) : Type 0 where
   pub blocks : List (List ℕ)
   pub found_is : found ≡ finding q (canonical blocks)
   pub unfit : found ≢ valid
+
+-- this is a design of the question, and the canonical form of a block list
+pub record IsFit (q : Query) (C : List (List ℕ)) : Type 0 where
+  pub blocks : List (List ℕ)
+  pub form : C ≡ canonical blocks
+  pub passes : finding q C ≡ valid
+  pub meets : Meets q C
 
 -- an offer was put in canonical form and checked
 abbrev pub IsExamined : Query → List (List ℕ) → Offered → Type 0
@@ -48,11 +47,11 @@ IsToldAnswer q es new (Ok (Fit C)) = (B : List (List ℕ)) × ((take_out q es).b
 IsToldAnswer q es new (Err Failed) = new ≡ Some es
 IsToldAnswer q es new (Err Memory) = (new ≡ Some es) ⊎ (new ≡ Some (take_out q es).entries)
 
--- whether entries are told or not, a list is valid only where it is a design of the question, and a failure has raised the count
+-- whether entries are told or not, an offer is valid only where it is a design of the question, and a failure has raised the count
 abbrev pub IsAnswer : Query → ℕ → ℕ → Result Offered OfferEnd → Type 0
 IsAnswer q before now (Ok Nothing) = ⊤
 IsAnswer q before now (Ok (Unfit found)) = IsUnfit q found
-IsAnswer q before now (Ok (Fit C)) = (finding q C ≡ valid) × Meets q C
+IsAnswer q before now (Ok (Fit C)) = IsFit q C
 IsAnswer q before now (Err Failed) = Rose before now
 IsAnswer q before now (Err Memory) = ⊤
 

@@ -9,7 +9,12 @@ use Rattle.design_io.specs.Faults.{Rose}
 use Rattle.catalogues.specs.declared.catalogue.Entry.{Entry}
 use Rattle.catalogues.specs.declared.catalogue.OfferEnd.{OfferEnd}
 use Rattle.catalogues.specs.declared.catalogue.OfferEnd.TheVariants.{Failed, Memory}
-use Rattle.catalogues.specs.Same.{same_query}
+use Rattle.design_base.specs.Same.{same_query}
+
+-- what is seen of a catalogue: its entries, where it tells them, and the count of its failed offers
+pub record Seen : Type 0 where
+  pub told : Option (List Entry)
+  pub failures : ℕ
 
 -- a block list that was taken out, and the entries that stay
 pub record Taken : Type 0 where

@@ -1,7 +1,7 @@
-pub mod Same
 pub mod Entries
 pub mod Listed
 pub mod Consults
 pub mod Consulted
+pub mod Left
 pub mod CatalogueText
 pub mod Loading

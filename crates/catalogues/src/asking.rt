@@ -1,7 +1,7 @@
 //! Catalogues are asked in order.
 ghost use Rattle.std.specs.Prelude.{◌≡◌, ◌<◌, ◌+◌, ◌^◌, IfOk, MatchResult, length, map, true};
 ghost use Rattle.design_base.specs.Limits.{in_bounds};
-ghost use Rattle.catalogues.specs.Consults.{Asks, EndsWalk, IsExamined, StepAt, Steps, WalksTo, seen};
+ghost use Rattle.catalogues.specs.Consults.{Asks, EndsWalk, IsExamined, StepAt, Steps, WalksTo};
 
 use crate::catalogue::{Catalogue, OfferEnd};
 use crate::outcome::{ConsultEnd, Consulted, Offered, Rejected, Rejections};
@@ -32,7 +32,7 @@ fn ask(
     scratch: &mut Scratch,
 ) -> Result<Offered, OfferEnd>
     requires { in_bounds q.now ≡ true }
-    ensures { Asks q.now (seen (entries catalogue.old) (failures catalogue.old)) (seen (entries catalogue.new) (failures catalogue.new)) result }
+    ensures { Asks q.now (seen catalogue.old) (seen catalogue.new) result }
 {
     let Some(rows) = catalogue.offer(q)? else {
         return Ok(Offered::Nothing);
@@ -54,7 +54,7 @@ fn ask_at(
     requires bounds { in_bounds q.now ≡ true }
     requires within { i < length list.old.items }
     ensures size { length list.new.items ≡ length list.old.items }
-    ensures asks { StepAt q.now i (map (λ b. seen (entries b) (failures b)) list.old.items) (map (λ b. seen (entries b) (failures b)) list.new.items) result }
+    ensures asks { StepAt q.now i (map seen list.old.items) (map seen list.new.items) result }
 {
     ask(&mut list[i], q, fields, scratch)
 }
@@ -72,7 +72,7 @@ fn step(
     requires within { i < length list.old.items }
     requires few { length list.old.items < 2 ^ 32 }
     ensures size { length list.new.items ≡ length list.old.items }
-    ensures steps { Steps q.now i (map (λ b. seen (entries b) (failures b)) list.old.items) (map (λ b. seen (entries b) (failures b)) list.new.items) rejected.old rejected.new result }
+    ensures steps { Steps q.now i (map seen list.old.items) (map seen list.new.items) rejected.old rejected.new result }
 {
     let number = i as u32 + 1;
     match ask_at(list, i, q, fields, scratch) {
@@ -100,8 +100,8 @@ pub fn walk(
     requires few { length list.old.items < 2 ^ 32 }
     ensures size { length list.new.items ≡ length list.old.items }
     ensures walks { MatchResult result
-        (λ c. WalksTo q.now (map (λ b. seen (entries b) (failures b)) list.old.items) (map (λ b. seen (entries b) (failures b)) list.new.items) c.rejected c.valid)
-        (λ end. EndsWalk q.now (map (λ b. seen (entries b) (failures b)) list.old.items) (map (λ b. seen (entries b) (failures b)) list.new.items) end) }
+        (λ c. WalksTo q.now (map seen list.old.items) (map seen list.new.items) c.rejected c.valid)
+        (λ end. EndsWalk q.now (map seen list.old.items) (map seen list.new.items) end) }
 {
     let mut rejected = Rejections::new(alloc);
     for i in 0..list.len() {

@@ -1,8 +1,5 @@
 //! What holds designs and gives them away.
-ghost use Rattle.std.specs.Prelude.{ℕ, List};
-ghost use Rattle.std.specs.declared.option.Option.{Option};
-ghost use Rattle.catalogues.specs.declared.catalogue.Entry.{Entry};
-ghost use Rattle.catalogues.specs.Entries.{Counts, Gives, IsSpent};
+ghost use Rattle.catalogues.specs.Entries.{Counts, Gives, IsSpent, Seen};
 
 use design_base::Query;
 use incidence::Rows;
@@ -25,19 +22,17 @@ pub enum OfferEnd {
 
 /// What holds designs and gives them away.
 pub trait Catalogue: Drop {
-    /// The entries that it holds, where it tells them.
-    ghost entries: { Self → Option (List Entry) };
-
-    /// The count of failed offers, which never falls and ends at the last value of the type u64.
-    ghost failures: { Self → ℕ };
+    /// What is seen of it: the entries that it holds, where it tells them, and the count of failed offers, which never falls and
+    /// ends at the last value of the type u64.
+    ghost seen: { Self → Seen };
 
     /// Takes out and gives the first entry of the question. `None` is that there is none. `Failed` comes only where the count
     /// of failed offers rose, and `Memory` only for want of memory; after both the entries are as they were.
     fn offer(&mut self, q: &Query) -> Result<Option<Rows>, OfferEnd>
-        ensures given { Gives (entries self.old) (entries self.new) q.now result }
-        ensures cause { Counts (failures self.old) (failures self.new) result };
+        ensures given { Gives (seen self.old).told (seen self.new).told q.now result }
+        ensures cause { Counts (seen self.old).failures (seen self.new).failures result };
 
     /// Whether it holds no entry.
     fn spent(&self) -> bool
-        ensures { IsSpent (entries self.now) result };
+        ensures { IsSpent (seen self.now).told result };
 }

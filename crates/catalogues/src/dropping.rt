@@ -1,13 +1,13 @@
 //! Spent catalogues are dropped.
 ghost use Rattle.std.specs.Prelude.{◌≡◌, ◌<◌, ◌≤◌, ◌+◌, ◌^◌, length, map};
-ghost use Rattle.catalogues.specs.Consults.{Drops, DropsAt, seen};
+ghost use Rattle.catalogues.specs.Consults.{Drops, DropsAt};
 ghost use Rattle.catalogues.specs.Entries.{IsSpent};
 
 use crate::catalogue::Catalogue;
 
 // Whether the catalogue is spent.
 fn is_spent(catalogue: &Box<dyn Catalogue>) -> bool
-    ensures { IsSpent (entries catalogue.now) result }
+    ensures { IsSpent (seen catalogue.now).told result }
 {
     catalogue.spent()
 }
@@ -17,7 +17,7 @@ fn drop_at(list: &mut Vec<Box<dyn Catalogue>>, i: usize, failed: Option<u32>)
     requires few { length list.old.items < 2 ^ 32 }
     requires within { i < length list.old.items }
     ensures size { (length list.old.items ≤ length list.new.items + 1) × (length list.new.items ≤ length list.old.items) }
-    ensures drops { DropsAt failed i (map (λ b. seen (entries b) (failures b)) list.old.items) (map (λ b. seen (entries b) (failures b)) list.new.items) }
+    ensures drops { DropsAt failed i (map seen list.old.items) (map seen list.new.items) }
 {
     let spent = is_spent(&list[i]);
     if !spent {
@@ -32,7 +32,7 @@ fn drop_at(list: &mut Vec<Box<dyn Catalogue>>, i: usize, failed: Option<u32>)
 // Drops the spent catalogues, but for the one with the number of the one that failed.
 pub fn drop_spent(list: &mut Vec<Box<dyn Catalogue>>, failed: Option<u32>)
     requires { length list.old.items < 2 ^ 32 }
-    ensures { Drops failed 0 (map (λ b. seen (entries b) (failures b)) list.old.items) (map (λ b. seen (entries b) (failures b)) list.new.items) }
+    ensures { Drops failed 0 (map seen list.old.items) (map seen list.new.items) }
 {
     let n = list.len();
     for k in 0..n {

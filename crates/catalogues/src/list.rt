@@ -2,10 +2,9 @@
 ghost use Rattle.std.specs.Prelude.{◌≡◌, ◌↔◌, ◌++◌, [], ◌∷◌, Contains, IfErr, IsErr, IsTrue, MatchResult, OnErr, OnOk, Some, length};
 ghost use Rattle.catalogues.specs.Entries.{Counts, Gives, IsSpent, place_of as place_in, take_out};
 ghost use Rattle.catalogues.specs.Listed.{after_failed_offer, after_offer, unasked};
-ghost use Rattle.catalogues.specs.Same.{same_query};
 
 use crate::catalogue::{Catalogue, Entry, OfferEnd};
-use design_base::{Memory, Query};
+use design_base::{Memory, Query, is_same};
 use incidence::Rows;
 use std::alloc::Global;
 use std::marker::Model;
@@ -30,13 +29,6 @@ impl Model for ListCatalogue {
       next = s.next;
       failures = s.failures;
     } };
-}
-
-// Whether two questions are the same.
-fn is_same(p: &Query, q: &Query) -> bool
-    ensures { result ≡ same_query p.now q.now }
-{
-    p == q
 }
 
 // The place of the first entry of the question.
@@ -111,9 +103,7 @@ impl ListCatalogue {
 }
 
 impl Catalogue for ListCatalogue {
-    ghost entries = { λ s. Some s.entries };
-
-    ghost failures = { λ s. s.failures };
+    ghost seen = { λ s. record { told = Some s.entries; failures = s.failures } };
 
     fn offer(&mut self, q: &Query) -> Result<Option<Rows>, OfferEnd>
         ensures given { Gives (Some self.old.entries) (Some self.new.entries) q.now result }

@@ -158,9 +158,7 @@ impl<S: Source> SourceCatalogue<S> {
 }
 
 impl<S: Source + Drop> Catalogue for SourceCatalogue<S> {
-    ghost entries = { λ s. None };
-
-    ghost failures = { λ s. s.failures };
+    ghost seen = { λ s. record { told = None; failures = s.failures } };
 
     fn offer(&mut self, q: &Query) -> Result<Option<Rows>, OfferEnd>
         ensures given { Gives None None q.now result }

@@ -1,6 +1,5 @@
 //! Catalogues that are read from a text.
 ghost use Rattle.std.specs.Prelude.{◌≡◌, ◌<◌, ◌≤◌, ◌+◌, ◌++◌, [], ◌∷◌, Err, IfErr, IfOk, IfSome, MatchOption, None, Some, false, length, true};
-ghost use Rattle.std.specs.Str.Lines.{strip_carriage_return};
 ghost use Rattle.design_base.specs.declared.limits.TheConstants.{INPUT_MAX, PACKED_MAX};
 ghost use Rattle.design_io.specs.InputLines.{lines_of};
 ghost use Rattle.design_lines.specs.Reading.{whole};
@@ -11,7 +10,7 @@ use crate::catalogue::Entry;
 use crate::list::ListCatalogue;
 use block_texts::{BlockLineEnd, push_block_line};
 use design_base::{Memory, Query, in_bounds};
-use design_io::{FirstLine, split_line};
+use design_io::{FirstLine, split_line, without_return};
 use design_lines::{Reason, Words};
 use incidence::Rows;
 use std::alloc::Global;
@@ -23,16 +22,6 @@ pub enum CatalogueEnd {
     BadLine { line: u32 },
     /// There was no memory.
     Memory,
-}
-
-// A line without the one carriage return that may be its last byte.
-fn without_return(line: &[u8]) -> &[u8]
-    ensures { result.now ≡ strip_carriage_return line.now }
-{
-    match line {
-        [rest @ .., b'\r'] => rest,
-        _ => line,
-    }
 }
 
 // Whether the line has no word.

@@ -1,6 +1,6 @@
 -- The catalogues behind the first n - k are done with.
 use Rattle.std.proofs.Common.{length, map, ◌-◌, ◌≡◌, ◌≤◌}
-use Rattle.catalogues.specs.Consults.{DropsFrom, seen}
+use Rattle.catalogues.specs.Consults.{DropsFrom}
 use Rattle.catalogues.proofs.dropping.drop_spent.Given as goal
 
 abbrev pub invariant-loop-k : goal.invariant-loop-k
@@ -9,6 +9,6 @@ invariant-loop-k g l = record {
   few : length l.list.items ≤ length l.fn.list.items;
   room : l.n - l.k ≤ length l.list.items;
   drops : DropsFrom l.failed (l.n - l.k)
-      (map (λ b. seen ((goal.Catalogue-dyn g (b.vtable, b.value)).entries b.value) ((goal.Catalogue-dyn g (b.vtable, b.value)).failures b.value)) l.fn.list.items)
-      (map (λ b. seen ((goal.Catalogue-dyn g (b.vtable, b.value)).entries b.value) ((goal.Catalogue-dyn g (b.vtable, b.value)).failures b.value)) l.list.items);
+      (map (λ b. (goal.Catalogue-dyn g (b.vtable, b.value)).seen b.value) l.fn.list.items)
+      (map (λ b. (goal.Catalogue-dyn g (b.vtable, b.value)).seen b.value) l.list.items);
 }
