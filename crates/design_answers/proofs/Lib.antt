@@ -1,3 +1,4 @@
 pub mod MissingCells
+pub mod Offered
 mod Samples
 pub mod Tallies

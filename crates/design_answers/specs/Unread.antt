@@ -1,5 +1,9 @@
 -- What the program answers to a command that leaves the input unread: the verdict on a question, and what is said of it.
+-- The catalogues that are asked for open questions hold the entries `lists`, one list each.
 use Rattle.std.specs.Prelude.{ℕ, ◌≡◌, Bool, true, false, List, [], ◌∷◌, ◌++◌, codes, length, Result, Ok, Err}
+use Rattle.catalogues.specs.Consulted.{consulted}
+use Rattle.catalogues.specs.Entries.{Seen}
+use Rattle.catalogues.specs.declared.catalogue.Entry.{Entry}
 use Rattle.criteria.specs.Criteria.{numbers_of}
 use Rattle.derivation_text.specs.Text.{derivation_lines}
 use Rattle.derivations.specs.Derivations.{derivation, replayed}
@@ -22,6 +26,7 @@ use Rattle.design_reports.specs.declared.status.Status.TheVariants.{Usage}
 use Rattle.rule_table.specs.Closure.{closure}
 use Rattle.rule_table.specs.Verdicts.{is_yes, verdict}
 use Rattle.design_answers.specs.Draws.{drawn, drawn_cells, is_no, is_unknown}
+use Rattle.design_answers.specs.Offers.{consulted_report, handed_report}
 
 -- why the verdict is so: for yes its derivation, for no the two numbers of the criterion
 abbrev pub reason_lines : Query → Verdict → List (List ℕ)
@@ -56,23 +61,56 @@ workload_lines n =
 abbrev pub workload_report : ℕ → Report
 workload_report n = record { lines = workload_lines n; ending = YesEnding }
 
+-- The answer to `ask`: the verdict, and for an open question what the catalogues offer.
+abbrev pub ask_report : Query → Verdict → List (List Entry) → Report
+ask_report q (YesVerdict step) lists = verdict_report q (YesVerdict step) []
+ask_report q (NoVerdict criterion) lists = verdict_report q (NoVerdict criterion) []
+ask_report q UnknownVerdict lists = consulted_report q lists
+
+-- The answer to `build`: the verdict, for yes its derivation and its blocks, and for an open question what the catalogues offer.
+abbrev pub build_report : Query → Shape → Verdict → List (List Entry) → Report
+build_report q shape (YesVerdict step) lists = verdict_report q (YesVerdict step) (design_lines q shape (YesVerdict step))
+build_report q shape (NoVerdict criterion) lists = verdict_report q (NoVerdict criterion) []
+build_report q shape UnknownVerdict lists = handed_report q shape lists
+
 -- The answer to a command that leaves the input unread: the verdict, and for `explain` why it is so, for `build` the design, for `closure`
 -- how many questions it rests on; or the count of a workload.
-abbrev pub unread_report : Command → Report
-unread_report (On Ask q shape) = verdict_report q (verdict q) []
-unread_report (On Explain q shape) = verdict_report q (verdict q) (reason_lines q (verdict q))
-unread_report (On Build q shape) = verdict_report q (verdict q) (design_lines q shape (verdict q))
-unread_report (On Closure q shape) = verdict_report q (verdict q) (closure_lines q)
-unread_report (Workload n) = workload_report n
-unread_report command = silent NotBuilt
+abbrev pub unread_report : Command → List (List Entry) → Report
+unread_report (On Ask q shape) lists = ask_report q (verdict q) lists
+unread_report (On Explain q shape) lists = verdict_report q (verdict q) (reason_lines q (verdict q))
+unread_report (On Build q shape) lists = build_report q shape (verdict q) lists
+unread_report (On Closure q shape) lists = verdict_report q (verdict q) (closure_lines q)
+unread_report (Workload n) lists = workload_report n
+unread_report command lists = silent NotBuilt
 
--- whether the answer to the command takes memory
-abbrev pub takes_memory : Result Command Reason → Bool
-takes_memory (Err reason) = false
-takes_memory (Ok (On Ask q shape)) = false
-takes_memory (Ok (On Closure q shape)) = false
-takes_memory (Ok (Workload n)) = false
-takes_memory command = true
+-- whether the catalogues are asked: where the table of rules leaves a question open
+abbrev pub asks_catalogues : Command → Bool
+asks_catalogues (On Ask q shape) = is_unknown (verdict q)
+asks_catalogues (On Build q shape) = is_unknown (verdict q)
+asks_catalogues command = false
+
+-- the entries afterwards: what was offered is taken out, and empty catalogues are dropped
+abbrev pub left_by : Query → Verdict → List (List Entry) → List (List Entry)
+left_by q (YesVerdict step) lists = lists
+left_by q (NoVerdict criterion) lists = lists
+left_by q UnknownVerdict lists = (consulted q lists).lists
+
+abbrev pub lists_after : Command → List (List Entry) → List (List Entry)
+lists_after (On Ask q shape) lists = left_by q (verdict q) lists
+lists_after (On Build q shape) lists = left_by q (verdict q) lists
+lists_after command lists = lists
+
+-- whether the answer to the command takes memory, by what is seen of the catalogues
+abbrev pub asks_some : Bool → List Seen → Bool
+asks_some asks [] = false
+asks_some asks (s ∷ seen) = asks
+
+abbrev pub takes_memory : Result Command Reason → List Seen → Bool
+takes_memory (Err reason) seen = false
+takes_memory (Ok (On Ask q shape)) seen = asks_some (is_unknown (verdict q)) seen
+takes_memory (Ok (On Closure q shape)) seen = false
+takes_memory (Ok (Workload n)) seen = false
+takes_memory command seen = true
 
 -- the words are refused
 abbrev pub IsRefused : Report → Type 0

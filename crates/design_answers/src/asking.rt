@@ -1,139 +1,76 @@
-//! The answers to `ask` and `explain`: the verdict, and why it is so.
-ghost use Rattle.std.specs.Prelude.{◌≡◌, ◌≢◌, [], ◌++◌, Some, true};
-ghost use Rattle.std.specs.List.{flat_map};
-ghost use Rattle.criteria.specs.Criteria.{criterion_of, numbers_of};
-ghost use Rattle.derivation_text.specs.Text.{derivation_lines};
+//! The answer to `ask`: the verdict, and what catalogues offer for a question that the table of rules leaves open.
+ghost use Rattle.std.specs.Prelude.{◌≡◌, ◌≢◌, ◌<◌, ◌^◌, ℕ, false, length, map, true};
+ghost use Rattle.catalogues.specs.Consulted.{consulted};
+ghost use Rattle.catalogues.specs.Consults.{HasFailed};
+ghost use Rattle.catalogues.specs.Left.{AreLeft};
+ghost use Rattle.design_answers.specs.Answered.{AnswersOn, HasOfferFault};
+ghost use Rattle.design_answers.specs.Draws.{is_unknown};
+ghost use Rattle.design_answers.specs.Offers.{consulted_report};
+ghost use Rattle.design_answers.specs.Unread.{ask_report, asks_some, left_by};
 ghost use Rattle.design_base.specs.Limits.{in_bounds};
-ghost use Rattle.derivations.specs.Spelled.{ArePrintable};
-ghost use Rattle.design_answers.specs.Unread.{reason_lines};
-ghost use Rattle.design_io.specs.Faults.{HasCause};
-ghost use Rattle.design_io.specs.Pieces.{AppendsWhole};
-ghost use Rattle.design_reports.specs.Answers.{EndsWith, HasFault, IsAnswer};
-ghost use Rattle.design_reports.specs.Reports.{verdict_report};
-ghost use Rattle.design_reports.specs.Texts.{because_lines, verdict_line as verdict_text};
+ghost use Rattle.design_reports.specs.Answers.{HasFault, IsAnswer};
 ghost use Rattle.rule_table.specs.Verdicts.{verdict as verdict_of};
 
+use crate::explaining::answer_verdict;
+use crate::offers::{answer_offers, counted, ending_of};
 use crate::oracle::Oracle;
-use criteria::numbers;
-use derivation_text::print_v1;
-use derivations::Derivation;
-use design_base::{Criterion, Query, Step, Verdict};
-use design_io::{Failed, Sink};
-use design_reports::{Ending, write_because, write_verdict};
+use catalogues::Catalogue;
+use design_base::{Query, Verdict};
+use design_io::Sink;
+use design_reports::Ending;
 use rule_table::Asker;
 use std::sync::ledger::Ledger;
 
-/// Answers with the verdict alone. It takes no memory.
-pub fn answer_verdict<K: Sink>(query: &Query, verdict: &Verdict, out: &mut K) -> Ending
-    ensures ends { EndsWith (verdict_report query.now verdict.now []) result (K.held out.old) (K.held out.new) }
+// Answers an open question with what the catalogues offer.
+fn answer_open<K: Sink, A: Asker + Drop, L: Ledger>(
+    query: &Query,
+    catalogues: &mut Vec<Box<dyn Catalogue>>,
+    oracle: &mut Oracle<A, L>,
+    out: &mut K,
+) -> Ending
+    requires bounds { in_bounds query.now ≡ true }
+    requires few { length catalogues.old.items < 2 ^ 32 }
+    ensures ends { AnswersOn (map seen catalogues.old.items) (map seen catalogues.new.items) (consulted_report query.now) (λ lists. (consulted query.now lists).lists) result (K.held out.old) (K.held out.new) }
     ensures cause { HasFault result (K.faults out.old) (K.faults out.new) }
-    ensures answered { IsAnswer result }
+    ensures offer { (number : ℕ) → result ≡ Ending.CatalogueFault number → HasFailed (map seen catalogues.old.items) (map seen catalogues.new.items) number }
+    ensures left { AreLeft (map seen catalogues.old.items) (map seen catalogues.new.items) }
     ensures no_read { result ≢ Ending.ReadFault }
-    ensures memory { result ≢ Ending.NoMemory }
+    ensures answered { IsAnswer result }
 {
-    match write_verdict(out, query, verdict) {
-        Ok(()) => Ending::of_verdict(verdict),
-        Err(Failed) => Ending::WriteFault,
+    match oracle.consult(query, catalogues) {
+        Ok(offers) => {
+            let valid = counted(&offers.valid);
+            answer_offers(query, offers.rejected.as_slice(), valid, out)
+        }
+        Err(end) => ending_of(end),
     }
 }
 
-/// Answers `ask` on a question in bounds: its verdict. It takes no memory.
+/// Answers `ask` on a question in bounds: its verdict, and for an open question what the catalogues offer. It takes no memory but where it asks
+/// one.
 pub fn answer_ask<K: Sink, A: Asker + Drop, L: Ledger>(
     query: &Query,
+    catalogues: &mut Vec<Box<dyn Catalogue>>,
     oracle: &mut Oracle<A, L>,
     out: &mut K,
 ) -> Ending
-    requires { in_bounds query.now ≡ true }
-    ensures ends { EndsWith (verdict_report query.now (verdict_of query.now) []) result (K.held out.old) (K.held out.new) }
-    ensures cause { HasFault result (K.faults out.old) (K.faults out.new) }
-    ensures answered { IsAnswer result }
-    ensures no_read { result ≢ Ending.ReadFault }
-    ensures memory { result ≢ Ending.NoMemory }
-{
-    answer_verdict(query, &oracle.verdict(query), out)
-}
-
-// Writes the verdict yes and its derivation.
-#[tactic(auto, using(design_io::proofs::Pieces::composed))]
-fn write_derivation<K: Sink>(
-    out: &mut K,
-    query: &Query,
-    step: &Step,
-    derivation: &Derivation,
-) -> Result<(), Failed>
-    requires { ArePrintable derivation.now }
-    ensures bytes { AppendsWhole (K.held out.old) (K.held out.new) result (verdict_text query.now (Verdict.Yes step.now) ++ flat_map (λ line. line) (derivation_lines derivation.now)) }
-    ensures cause { HasCause (K.faults out.old) (K.faults out.new) result }
-{
-    write_verdict(out, query, &Verdict::Yes(*step))?;
-    print_v1(derivation, out)
-}
-
-// Explains a question that the table of rules answers by yes, by its derivation.
-fn explain_yes<K: Sink>(query: &Query, step: &Step, derivation: &Derivation, out: &mut K) -> Ending
-    requires { ArePrintable derivation.now }
-    ensures ends { EndsWith (verdict_report query.now (Verdict.Yes step.now) (derivation_lines derivation.now)) result (K.held out.old) (K.held out.new) }
-    ensures cause { HasFault result (K.faults out.old) (K.faults out.new) }
-    ensures answered { IsAnswer result }
-    ensures no_read { result ≢ Ending.ReadFault }
-    ensures memory { result ≢ Ending.NoMemory }
-{
-    match write_derivation(out, query, step, derivation) {
-        Ok(()) => Ending::Yes,
-        Err(Failed) => Ending::WriteFault,
-    }
-}
-
-// Writes the verdict no, and the two numbers that the criterion compares.
-#[tactic(auto, using(design_io::proofs::Pieces::composed))]
-fn write_reason<K: Sink>(out: &mut K, query: &Query, criterion: Criterion) -> Result<(), Failed>
     requires bounds { in_bounds query.now ≡ true }
-    requires criterion { criterion_of query.now ≡ Some criterion }
-    ensures bytes { AppendsWhole (K.held out.old) (K.held out.new) result (verdict_text query.now (Verdict.No criterion) ++ flat_map (λ line. line) (because_lines (numbers_of query.now))) }
-    ensures cause { HasCause (K.faults out.old) (K.faults out.new) result }
-{
-    write_verdict(out, query, &Verdict::No(criterion))?;
-    let (first, second) = numbers(query, &criterion);
-    write_because(out, first, second)
-}
-
-// Explains a question that the table of rules answers by no.
-fn explain_no<K: Sink>(query: &Query, criterion: Criterion, out: &mut K) -> Ending
-    requires bounds { in_bounds query.now ≡ true }
-    requires criterion { criterion_of query.now ≡ Some criterion }
-    ensures ends { EndsWith (verdict_report query.now (Verdict.No criterion) (because_lines (numbers_of query.now))) result (K.held out.old) (K.held out.new) }
+    requires few { length catalogues.old.items < 2 ^ 32 }
+    ensures ends { AnswersOn (map seen catalogues.old.items) (map seen catalogues.new.items) (ask_report query.now (verdict_of query.now)) (left_by query.now (verdict_of query.now)) result (K.held out.old) (K.held out.new) }
     ensures cause { HasFault result (K.faults out.old) (K.faults out.new) }
-    ensures answered { IsAnswer result }
+    ensures offer { (number : ℕ) → result ≡ Ending.CatalogueFault number → HasOfferFault (is_unknown (verdict_of query.now)) (map seen catalogues.old.items) (map seen catalogues.new.items) number }
+    ensures left { AreLeft (map seen catalogues.old.items) (map seen catalogues.new.items) }
+    ensures unasked { is_unknown (verdict_of query.now) ≡ false → catalogues.new ≡ catalogues.old }
     ensures no_read { result ≢ Ending.ReadFault }
-    ensures memory { result ≢ Ending.NoMemory }
-{
-    match write_reason(out, query, criterion) {
-        Ok(()) => Ending::No,
-        Err(Failed) => Ending::WriteFault,
-    }
-}
-
-/// Answers `explain` on a question in bounds: its verdict, and its derivation or the two numbers of its criterion.
-#[tactic(auto, using(rule_table::proofs::Meanings::criterion_of_no))]
-pub fn answer_explain<K: Sink, A: Asker + Drop, L: Ledger>(
-    query: &Query,
-    oracle: &mut Oracle<A, L>,
-    out: &mut K,
-) -> Ending
-    requires { in_bounds query.now ≡ true }
-    ensures ends { EndsWith (verdict_report query.now (verdict_of query.now) (reason_lines query.now (verdict_of query.now))) result (K.held out.old) (K.held out.new) }
-    ensures cause { HasFault result (K.faults out.old) (K.faults out.new) }
     ensures answered { IsAnswer result }
-    ensures no_read { result ≢ Ending.ReadFault }
+    ensures memory { asks_some (is_unknown (verdict_of query.now)) (map seen catalogues.old.items) ≡ false → result ≢ Ending.NoMemory }
 {
-    match oracle.verdict(query) {
-        Verdict::Yes(step) => {
-            let Ok(derivation) = oracle.derivation(query, &step) else {
-                return Ending::NoMemory;
-            };
-            explain_yes(query, &step, &derivation, out)
-        }
-        Verdict::No(criterion) => explain_no(query, criterion, out),
-        Verdict::Unknown => answer_verdict(query, &Verdict::Unknown, out),
+    let verdict = oracle.verdict(query);
+    let Verdict::Unknown = verdict else {
+        return answer_verdict(query, &verdict, out);
+    };
+    if catalogues.is_empty() {
+        return answer_verdict(query, &verdict, out);
     }
+    answer_open(query, catalogues, oracle, out)
 }

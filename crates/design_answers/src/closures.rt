@@ -1,5 +1,5 @@
 //! The answer to `closure`: the verdict, and how many questions it rests on.
-ghost use Rattle.std.specs.Prelude.{◌≡◌, ◌≢◌, ◌++◌, codes, true};
+ghost use Rattle.std.specs.Prelude.{◌≡◌, ◌≢◌, ◌++◌, codes, true, ℕ};
 ghost use Rattle.design_answers.specs.Unread.{closure_lines};
 ghost use Rattle.design_base.specs.Limits.{in_bounds};
 ghost use Rattle.design_io.specs.Faults.{HasCause};
@@ -43,6 +43,7 @@ pub fn answer_closure<K: Sink, A: Asker + Drop, L: Ledger>(
     ensures cause { HasFault result (K.faults out.old) (K.faults out.new) }
     ensures answered { IsAnswer result }
     ensures no_read { result ≢ Ending.ReadFault }
+    ensures no_offer { (number : ℕ) → result ≢ Ending.CatalogueFault number }
     ensures memory { result ≢ Ending.NoMemory }
 {
     let size = oracle.closure_size(query);

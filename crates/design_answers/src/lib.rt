@@ -1,5 +1,5 @@
-//! The answers to commands that leave the input unread: the verdict on a question, why it is so, its design, what
-//! it rests on, and the count of many verdicts.
+//! The answers to commands that leave the input unread: the verdict on a question, why it is so, its design, what catalogues offer
+//! for it, what it rests on, and the count of many verdicts.
 #![tactic(auto)]
 
 mod answering;
@@ -7,6 +7,8 @@ mod asking;
 mod building;
 mod closures;
 mod draws;
+mod explaining;
+mod offers;
 mod oracle;
 mod tally;
 mod workload;

@@ -1,5 +1,8 @@
 //! What the answers to questions are asked of.
-ghost use Rattle.std.specs.Prelude.{◌≡◌, ◌≤◌, ◌+◌, IfOk, length, true};
+ghost use Rattle.std.specs.Prelude.{◌≡◌, ◌<◌, ◌≤◌, ◌+◌, ◌^◌, IfErr, IfOk, length, map, true};
+ghost use Rattle.catalogues.specs.Consulted.{IsConsulted};
+ghost use Rattle.catalogues.specs.Consults.{AreSound, HasEnded};
+ghost use Rattle.catalogues.specs.Left.{AreLeft};
 ghost use Rattle.design_answers.specs.Draws.{drawn, drawn_cells, is_no, is_unknown};
 ghost use Rattle.derivations.specs.Derivations.{IsSound, derivation, replayed};
 ghost use Rattle.design_base.specs.Limits.{in_bounds};
@@ -11,8 +14,11 @@ ghost use Rattle.rule_table.specs.Closure.{closure};
 ghost use Rattle.rule_table.specs.Verdicts.{is_yes, verdict as verdict_of};
 
 use crate::tally::{Tally, tally_draws};
+use catalogues::{Catalogue, ConsultEnd, Consulted, consult};
 use derivations::{Derivation, ReplayEnd, derive, replay};
 use design_base::{Memory, Query, Step, Verdict};
+use design_checks::Scratch;
+use field_tables::Fields;
 use incidence::Rows;
 use rule_table::{Asker, Marks, Steps, Tools, visit};
 use std::alloc::Global;
@@ -25,8 +31,25 @@ pub struct Design {
     pub blocks: Rows,
 }
 
-/// The table of rules, whoever answers its questions, marks on questions, and the count of evaluations: what the answers need of
-/// them, made once and lent to each.
+// What the check of an offer needs.
+#[derive(Drop)]
+struct Examiner {
+    fields: Fields,
+    scratch: Scratch,
+}
+
+impl Examiner {
+    // All fields, and room to count in.
+    fn open(alloc: Global) -> Result<Examiner, Memory> {
+        Ok(Examiner {
+            fields: Fields::open(alloc)?,
+            scratch: Scratch::new(alloc)?,
+        })
+    }
+}
+
+/// The table of rules, whoever answers its questions, marks on questions, the count of evaluations, and what the check of offers
+/// needs: what the answers need of them, made once and lent to each.
 #[derive(Drop)]
 pub struct Oracle<'a, A: Asker + Drop, L: Ledger> {
     alloc: Global,
@@ -34,6 +57,7 @@ pub struct Oracle<'a, A: Asker + Drop, L: Ledger> {
     asker: A,
     marks: Marks,
     steps: &'a mut Steps<L>,
+    examiner: Option<Examiner>,
 }
 
 impl<'a, A: Asker + Drop, L: Ledger> Oracle<'a, A, L> {
@@ -51,6 +75,7 @@ impl<'a, A: Asker + Drop, L: Ledger> Oracle<'a, A, L> {
             asker,
             marks,
             steps,
+            examiner: None,
         })
     }
 
@@ -131,5 +156,42 @@ impl<'a, A: Asker + Drop, L: Ledger> Oracle<'a, A, L> {
             Err(ReplayEnd::Memory) => Err(Memory),
             Err(ReplayEnd::BadLine { .. }) => unreachable!(),
         }
+    }
+
+    // What the check of an offer needs, which is made at the first one.
+    fn take_examiner(&mut self) -> Result<Examiner, Memory> {
+        match self.examiner.take() {
+            Some(examiner) => Ok(examiner),
+            None => Examiner::open(self.alloc),
+        }
+    }
+
+    /// What the catalogues offer for a question in bounds, of which there are fewer than 4,294,967,296. They are asked as `consult` says, with its
+    /// refusals.
+    #[tactic(auto, using(catalogues::proofs::Left::left_refl))]
+    pub fn consult(
+        &mut self,
+        query: &Query,
+        catalogues: &mut Vec<Box<dyn Catalogue>>,
+    ) -> Result<Consulted, ConsultEnd>
+        requires bounds { in_bounds query.now ≡ true }
+        requires few { length catalogues.old.items < 2 ^ 32 }
+        ensures told { IfOk result (λ c. IsConsulted query.now (map seen catalogues.old.items) (map seen catalogues.new.items) c.rejected c.valid) }
+        ensures sound { IfOk result (λ c. AreSound query.now c.rejected c.valid) }
+        ensures left { AreLeft (map seen catalogues.old.items) (map seen catalogues.new.items) }
+        ensures cause { IfErr result (λ end. HasEnded (map seen catalogues.old.items) (map seen catalogues.new.items) end) }
+    {
+        let Ok(mut examiner) = self.take_examiner() else {
+            return Err(ConsultEnd::Memory);
+        };
+        let found = consult(
+            self.alloc,
+            catalogues,
+            query,
+            &examiner.fields,
+            &mut examiner.scratch,
+        );
+        self.examiner = Some(examiner);
+        found
     }
 }

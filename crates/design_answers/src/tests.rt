@@ -1,8 +1,9 @@
 // What is answered on the output, one line after another of one oracle.
-ghost use Rattle.std.specs.Prelude.{◌≡◌, ◌<◌};
+ghost use Rattle.std.specs.Prelude.{◌≡◌, ◌<◌, ◌^◌, length};
 
 use crate::{Oracle, answer_unread};
-use design_io::MemorySink;
+use catalogues::{Catalogue, SourceCatalogue};
+use design_io::{MemorySink, MemorySource};
 use design_lines::read_words;
 use design_reports::Ending;
 use rule_table::{Notes, Steps};
@@ -40,9 +41,12 @@ fn words_of(alloc: Global, text: &str) -> Result<Vec<String>, AllocError> {
 // Whether the line is answered so.
 fn holds<L: Ledger>(
     alloc: Global,
+    catalogues: &mut Vec<Box<dyn Catalogue>>,
     oracle: &mut Oracle<Notes, L>,
     row: &Case,
-) -> Result<bool, AllocError> {
+) -> Result<bool, AllocError>
+    requires { length catalogues.old.items < 2 ^ 32 }
+{
     let words = words_of(alloc, row.line)?;
     let Ok(command) = read_words(&words) else {
         return Ok(false);
@@ -50,12 +54,17 @@ fn holds<L: Ledger>(
     let Ok(mut out) = MemorySink::new(alloc, 4096, vec![in alloc; row.failing]?) else {
         return Err(AllocError);
     };
-    let ending = answer_unread(command, oracle, &mut out);
+    let ending = answer_unread(command, catalogues, oracle, &mut out);
     Ok(ending == row.ending && out.bytes() == row.output.as_bytes())
 }
 
-// How many of the lines are answered so, up to the first that is not, with the steps counted on a ledger.
-fn count_counted<L: Ledger>(alloc: Global, rows: &[Case], blank: Blank) -> Result<usize, AllocError>
+// How many of the lines are answered so, up to the first that is not, with at most one catalogue at hand and the steps counted on a ledger.
+fn count_counted<L: Ledger>(
+    alloc: Global,
+    catalogues: &mut Vec<Box<dyn Catalogue>>,
+    rows: &[Case],
+    blank: Blank,
+) -> Result<usize, AllocError>
     requires name { L.name ≡ blank.name }
     requires parts { L.parts ≡ blank.parts }
     requires some { 0 < blank.parts }
@@ -68,16 +77,27 @@ fn count_counted<L: Ledger>(alloc: Global, rows: &[Case], blank: Blank) -> Resul
         return Err(AllocError);
     };
     for (i, row) in rows.iter().enumerate() {
-        if !holds(alloc, &mut oracle, row)? {
+        if catalogues.len() > 1 {
+            return Ok(i);
+        }
+        if !holds(alloc, catalogues, &mut oracle, row)? {
             return Ok(i);
         }
     }
     Ok(rows.len())
 }
 
-// How many of the lines are answered so, up to the first that is not.
+// How many of the lines are answered so, up to the first that is not, with a catalogue of this text at hand.
+fn count_with(alloc: Global, text: &str, rows: &[Case]) -> Result<usize, AllocError> {
+    let source = MemorySource::new(text.as_bytes().to_vec(alloc)?, Vec::new(alloc));
+    let mut catalogues: Vec<Box<dyn Catalogue>> = Vec::new(alloc);
+    catalogues.push(Box::new(alloc, SourceCatalogue::new(alloc, source))?)?;
+    count_counted::<Brand>(alloc, &mut catalogues, rows, Blank::new(1))
+}
+
+// How many of the lines are answered so, up to the first that is not, with no design at hand.
 fn count(alloc: Global, rows: &[Case]) -> Result<usize, AllocError> {
-    count_counted::<Brand>(alloc, rows, Blank::new(1))
+    count_with(alloc, "", rows)
 }
 
 const SUM_9: &str = "bibd 9 3 4 yes sum 1
@@ -115,6 +135,33 @@ fn verdicts_and_designs(rt: HostRuntime) -> Result<(), Fail> {
         told("batch", "", Ending::NotBuilt),
     ];
     assert_eq!(rt; count(rt.alloc(), &rows)?, rows.len());
+    Ok(())
+}
+
+const HANDED_13: &str = "df z 13 3 1 unknown
+offer 1 valid 2 blocks
+blocks 2
+0 1 4
+0 2 7
+";
+
+#[test]
+fn designs_are_handed_in(rt: HostRuntime) -> Result<(), Fail> {
+    let rows = [
+        told("ask bibd 9 3 1", "bibd 9 3 1 yes bose\n", Ending::Yes),
+        told("ask bibd 15 5 2", "bibd 15 5 2 unknown\n", Ending::Unknown),
+        told("build df z 13 3 1", HANDED_13, Ending::Yes),
+        told(
+            "ask df z 13 3 1",
+            "df z 13 3 1 unknown\noffer 1 invalid pair 0 2 covered 2\n",
+            Ending::Unknown,
+        ),
+        told("ask df z 13 3 1", "df z 13 3 1 unknown\n", Ending::Unknown),
+    ];
+    let text = "design df z 13 3 1\n0 1 4\n0 2 7\nend\ndesign df z 13 3 1\n0 1 3\n0 2 7\nend\n";
+    assert_eq!(rt; count_with(rt.alloc(), text, &rows)?, rows.len());
+    let cut = [told("ask df z 13 3 1", "", Ending::CatalogueFault { number: 1 })];
+    assert_eq!(rt; count_with(rt.alloc(), "design df z 13 3 1\n", &cut)?, 1);
     Ok(())
 }
 

@@ -1,5 +1,5 @@
 //! The answer to `workload`: how many draws have which verdict, and how many questions their closures have.
-ghost use Rattle.std.specs.Prelude.{◌≡◌, ◌≢◌, ◌++◌, codes, true};
+ghost use Rattle.std.specs.Prelude.{◌≡◌, ◌≢◌, ◌++◌, codes, true, ℕ};
 ghost use Rattle.design_answers.specs.Unread.{workload_report};
 ghost use Rattle.design_base.specs.Limits.{within};
 ghost use Rattle.design_base.specs.declared.limits.TheConstants.{WORKLOAD_MAX};
@@ -40,6 +40,7 @@ pub fn answer_workload<K: Sink, A: Asker + Drop, L: Ledger>(
     ensures cause { HasFault result (K.faults out.old) (K.faults out.new) }
     ensures answered { IsAnswer result }
     ensures no_read { result ≢ Ending.ReadFault }
+    ensures no_offer { (number : ℕ) → result ≢ Ending.CatalogueFault number }
     ensures memory { result ≢ Ending.NoMemory }
 {
     let (tally, cells) = oracle.tally(n);

@@ -16,7 +16,7 @@ use Rattle.design_lines.specs.declared.command.Shape.{Shape}
 use Rattle.design_reports.specs.Answers.{HasFault, HasReadFault, IsAnswer}
 use Rattle.design_reports.specs.Endings.{ending_at, status_of}
 use Rattle.design_reports.specs.Reports.{found_report, silent}
-use Rattle.design_reports.specs.declared.ending.Ending.TheVariants.{BadInput, ReadFault}
+use Rattle.design_reports.specs.declared.ending.Ending.TheVariants.{BadInput, CatalogueFault, ReadFault}
 use Rattle.design_reports.specs.declared.status.Status.TheVariants.{Usage}
 
 -- some text is what an input has left
@@ -28,6 +28,11 @@ pub unread_answers : (end : ReadEnd) → IsAnswer (ending_at end)
 unread_answers Failed e = cc
 unread_answers (TooLong line) e = cc
 unread_answers Memory e = cc
+
+pub unread_offers : (end : ReadEnd) (number : ℕ) → ending_at end ≢ CatalogueFault number
+unread_offers Failed number e = cc
+unread_offers (TooLong line) number e = cc
+unread_offers Memory number e = cc
 
 pub unread_writes : (end : ReadEnd) (faults : ℕ) → HasFault (ending_at end) faults faults
 unread_writes Failed faults = record { later = omega arith; failed = λ e. cc }

@@ -5,6 +5,8 @@ use Rattle.std.proofs.lemmas.List.Concat.{flat_map-append}
 use Rattle.std.specs.Io.KnownBytes.{Appends, Keeps}
 use Rattle.std.specs.List.{flat_map}
 use Rattle.std.specs.Result.{OnErr, OnOk}
+use Rattle.catalogues.specs.Entries.{Seen}
+use Rattle.catalogues.specs.declared.catalogue.Entry.{Entry}
 use Rattle.design_answers.specs.Unread.{IsRefused}
 use Rattle.design_io.proofs.HandedOn.{AppendsPart-on, Keeps-on}
 use Rattle.design_io.proofs.Pieces.{AppendsPart-first}
@@ -18,12 +20,12 @@ use Rattle.design_lines.specs.declared.command.Verb.TheVariants.{Ask, Build, Che
 use Rattle.design_reports.specs.Answers.{HasFault}
 use Rattle.design_reports.specs.Reports.{Report, output}
 use Rattle.design_reports.specs.declared.ending.Ending.{Ending}
-use Rattle.design_reports.specs.declared.ending.Ending.TheVariants.{Yes, No, Unknown, Refused, NotBuilt, BadInput, ReadFault, NoMemory, WriteFault}
+use Rattle.design_reports.specs.declared.ending.Ending.TheVariants.{Yes, No, Unknown, Refused, NotBuilt, BadInput, ReadFault, CatalogueFault, NoMemory, WriteFault}
 use Rattle.design_cli.proofs.Endings.{check_answers}
 use Rattle.design_cli.proofs.Runnings.{replay_answers, rules_answer}
-use Rattle.design_cli.specs.Batches.{AppendsSome}
+use Rattle.design_cli.specs.Batches.{AppendsFirst}
 use Rattle.design_cli.specs.Report.{command_report}
-use Rattle.design_cli.specs.Runs.{AnswerEnds, Answers, Stands, StandsTaken}
+use Rattle.design_cli.specs.Runs.{AnswerEnds, Answers, IsCount, Stands}
 
 -- All was handed on.
 module _ (a b : Option (List ℕ)) (handed : List ℕ) (on : Appends a b handed) where
@@ -37,38 +39,25 @@ module _ (a b : Option (List ℕ)) (handed : List ℕ) (on : Appends a b handed)
   moved_part bs part = AppendsPart-on {T = Unit {0}} {E = Failed} a b (Ok tt) handed bs part on
 
   -- what stands of an answer that was cut
-  moved_stands : (command : Result Command Reason) (report : Report) → Stands command report (Some []) (Some handed) → Stands command report a b
-  moved_stands (Err reason) report stands = kept stands
-  moved_stands (Ok (On verb q shape)) report stands = kept stands
-  moved_stands (Ok Replay) report stands = kept stands
-  moved_stands (Ok Batch) report stands = record { count = stands.count; appended = moved _ stands.appended }
-  moved_stands (Ok (Workload n)) report stands = kept stands
-  moved_stands (Ok (Table ask workers)) report stands = kept stands
+  moved_stands : (command : Result Command Reason) (count : ℕ) (report : Report) → Stands command count report (Some []) (Some handed) → Stands command count report a b
+  moved_stands (Err reason) count report stands = kept stands
+  moved_stands (Ok (On verb q shape)) count report stands = kept stands
+  moved_stands (Ok Replay) count report stands = kept stands
+  moved_stands (Ok Batch) count report stands = moved _ stands
+  moved_stands (Ok (Workload n)) count report stands = kept stands
+  moved_stands (Ok (Table ask workers)) count report stands = kept stands
 
-  moved_taken : (command : Result Command Reason) (text : List ℕ) (after : Option (List ℕ)) → StandsTaken command text after (Some []) (Some handed) → StandsTaken command text after a b
-  moved_taken (Err reason) text after stands = kept stands
-  moved_taken (Ok (On verb q shape)) text after stands = kept stands
-  moved_taken (Ok Replay) text after stands = kept stands
-  moved_taken (Ok Batch) text after stands = record {
-    taken = stands.taken;
-    rest = stands.rest;
-    is_text = stands.is_text;
-    is_left = stands.is_left;
-    appended = moved _ stands.appended;
-  }
-  moved_taken (Ok (Workload n)) text after stands = kept stands
-  moved_taken (Ok (Table ask workers)) text after stands = kept stands
-
-  moved_ends : (command : Result Command Reason) (report : Report) (ending : Ending) → AnswerEnds command report ending (Some []) (Some handed) → AnswerEnds command report ending a b
-  moved_ends command report Yes ends = (ends.0, moved (output report) ends.1)
-  moved_ends command report No ends = (ends.0, moved (output report) ends.1)
-  moved_ends command report Unknown ends = (ends.0, moved (output report) ends.1)
-  moved_ends command report (Refused reason) ends = (ends.0, moved (output report) ends.1)
-  moved_ends command report NotBuilt ends = (ends.0, moved (output report) ends.1)
-  moved_ends command report (BadInput line) ends = (ends.0, moved (output report) ends.1)
-  moved_ends command report ReadFault ends = moved_stands command report ends
-  moved_ends command report NoMemory ends = moved_stands command report ends
-  moved_ends command report WriteFault ends = moved_part (output report) ends
+  moved_ends : (command : Result Command Reason) (count : ℕ) (report : Report) (ending : Ending) → AnswerEnds command count report ending (Some []) (Some handed) → AnswerEnds command count report ending a b
+  moved_ends command count report Yes ends = (ends.0, moved (output report) ends.1)
+  moved_ends command count report No ends = (ends.0, moved (output report) ends.1)
+  moved_ends command count report Unknown ends = (ends.0, moved (output report) ends.1)
+  moved_ends command count report (Refused reason) ends = (ends.0, moved (output report) ends.1)
+  moved_ends command count report NotBuilt ends = (ends.0, moved (output report) ends.1)
+  moved_ends command count report (BadInput line) ends = (ends.0, moved (output report) ends.1)
+  moved_ends command count report ReadFault ends = moved_stands command count report ends
+  moved_ends command count report (CatalogueFault number) ends = moved_stands command count report ends
+  moved_ends command count report NoMemory ends = moved_stands command count report ends
+  moved_ends command count report WriteFault ends = moved_part (output report) ends
 
 -- A proper prefix was handed on.
 module _ (a b : Option (List ℕ)) (handed : List ℕ) (e : Failed) (part : AppendsPart a b handed) where
@@ -79,69 +68,97 @@ module _ (a b : Option (List ℕ)) (handed : List ℕ) (e : Failed) (part : Appe
   cut bs is = subst (AppendsPart a b) is part
 
   -- the answers to the first lines are a prefix of all
-  cut_some : (answers : List (List ℕ)) → AppendsSome (Some []) (Some handed) answers → AppendsPart a b (flat_map (λ answer. answer) answers)
-  cut_some answers some =
-      let first = take some.count answers in
-      let later = drop some.count answers in
+  cut_first : (count : ℕ) (answers : List (List ℕ)) → AppendsFirst count (Some []) (Some handed) answers → AppendsPart a b (flat_map (λ answer. answer) answers)
+  cut_first count answers appended =
+      let first = take count answers in
+      let later = drop count answers in
       let is : flat_map (λ answer. answer) answers ≡ flat_map (λ answer. answer) first ++ flat_map (λ answer. answer) later =
-      ap (flat_map (λ answer. answer)) (sym (take-append-drop some.count answers)) ∙ flat_map-append (λ answer. answer) first later in
-      rw is (AppendsPart-first (flat_map (λ answer. answer) later) (cut (flat_map (λ answer. answer) first) some.appended))
+      ap (flat_map (λ answer. answer)) (sym (take-append-drop count answers)) ∙ flat_map-append (λ answer. answer) first later in
+      rw is (AppendsPart-first (flat_map (λ answer. answer) later) (cut (flat_map (λ answer. answer) first) appended))
 
-  cut_stands : (command : Result Command Reason) (report : Report) → Stands command report (Some []) (Some handed) → AppendsPart a b (output report)
-  cut_stands (Err reason) report stands = absurd (none_kept stands)
-  cut_stands (Ok (On verb q shape)) report stands = absurd (none_kept stands)
-  cut_stands (Ok Replay) report stands = absurd (none_kept stands)
-  cut_stands (Ok Batch) report stands = cut_some report.lines stands
-  cut_stands (Ok (Workload n)) report stands = absurd (none_kept stands)
-  cut_stands (Ok (Table ask workers)) report stands = absurd (none_kept stands)
+  cut_stands : (command : Result Command Reason) (count : ℕ) (report : Report) → Stands command count report (Some []) (Some handed) → AppendsPart a b (output report)
+  cut_stands (Err reason) count report stands = absurd (none_kept stands)
+  cut_stands (Ok (On verb q shape)) count report stands = absurd (none_kept stands)
+  cut_stands (Ok Replay) count report stands = absurd (none_kept stands)
+  cut_stands (Ok Batch) count report stands = cut_first count report.lines stands
+  cut_stands (Ok (Workload n)) count report stands = absurd (none_kept stands)
+  cut_stands (Ok (Table ask workers)) count report stands = absurd (none_kept stands)
 
-  cut_ends : (command : Result Command Reason) (report : Report) (ending : Ending) → AnswerEnds command report ending (Some []) (Some handed) → AppendsPart a b (output report)
-  cut_ends command report Yes ends = cut (output report) ends.1
-  cut_ends command report No ends = cut (output report) ends.1
-  cut_ends command report Unknown ends = cut (output report) ends.1
-  cut_ends command report (Refused reason) ends = cut (output report) ends.1
-  cut_ends command report NotBuilt ends = cut (output report) ends.1
-  cut_ends command report (BadInput line) ends = cut (output report) ends.1
-  cut_ends command report ReadFault ends = cut_stands command report ends
-  cut_ends command report NoMemory ends = cut_stands command report ends
-  cut_ends command report WriteFault ends = AppendsPart-on {T = Unit {0}} a b (Err e) handed (output report) ends part
+  cut_ends : (command : Result Command Reason) (count : ℕ) (report : Report) (ending : Ending) → AnswerEnds command count report ending (Some []) (Some handed) → AppendsPart a b (output report)
+  cut_ends command count report Yes ends = cut (output report) ends.1
+  cut_ends command count report No ends = cut (output report) ends.1
+  cut_ends command count report Unknown ends = cut (output report) ends.1
+  cut_ends command count report (Refused reason) ends = cut (output report) ends.1
+  cut_ends command count report NotBuilt ends = cut (output report) ends.1
+  cut_ends command count report (BadInput line) ends = cut (output report) ends.1
+  cut_ends command count report ReadFault ends = cut_stands command count report ends
+  cut_ends command count report (CatalogueFault number) ends = cut_stands command count report ends
+  cut_ends command count report NoMemory ends = cut_stands command count report ends
+  cut_ends command count report WriteFault ends = AppendsPart-on {T = Unit {0}} a b (Err e) handed (output report) ends part
 
 -- nothing is written where the words are refused
-refused_silent : (command : Result Command Reason) (text : List ℕ) → IsRefused (command_report command text) → output (command_report command text) ≡ []
-refused_silent (Err reason) text e = refl
-refused_silent (Ok (On Check q shape)) text e = absurd (check_answers q shape text e)
-refused_silent (Ok (On Ask q shape)) text e = absurd (rules_answer (On Ask q shape) refl text e)
-refused_silent (Ok (On Build q shape)) text e = absurd (rules_answer (On Build q shape) refl text e)
-refused_silent (Ok (On Explain q shape)) text e = absurd (rules_answer (On Explain q shape) refl text e)
-refused_silent (Ok (On Closure q shape)) text e = absurd (rules_answer (On Closure q shape) refl text e)
-refused_silent (Ok Replay) text e = absurd (replay_answers text e)
-refused_silent (Ok Batch) text e = absurd (rules_answer Batch refl text e)
-refused_silent (Ok (Workload n)) text e = absurd (rules_answer (Workload n) refl text e)
-refused_silent (Ok (Table ask workers)) text e = refl
+refused_silent : (command : Result Command Reason) (text : List ℕ) (lists : List (List (List Entry))) → IsRefused (command_report command text lists) → output (command_report command text lists) ≡ []
+refused_silent (Err reason) text lists e = refl
+refused_silent (Ok (On Check q shape)) text lists e = absurd (check_answers q shape text e)
+refused_silent (Ok (On Ask q shape)) text lists e = absurd (rules_answer (On Ask q shape) refl text lists e)
+refused_silent (Ok (On Build q shape)) text lists e = absurd (rules_answer (On Build q shape) refl text lists e)
+refused_silent (Ok (On Explain q shape)) text lists e = absurd (rules_answer (On Explain q shape) refl text lists e)
+refused_silent (Ok (On Closure q shape)) text lists e = absurd (rules_answer (On Closure q shape) refl text lists e)
+refused_silent (Ok Replay) text lists e = absurd (replay_answers text e)
+refused_silent (Ok Batch) text lists e = absurd (rules_answer Batch refl text lists e)
+refused_silent (Ok (Workload n)) text lists e = absurd (rules_answer (Workload n) refl text lists e)
+refused_silent (Ok (Table ask workers)) text lists e = refl
+
+-- a flush that fails leaves the catalogues and the count of lines as they are
+count_settled : (command : Result Command Reason) (text : List ℕ) (after : Option (List ℕ)) (report : Report) (ending : Ending) (count : ℕ) → IsCount command text after report ending count → IsCount command text after report WriteFault count
+count_settled (Err reason) text after report ending count is = is
+count_settled (Ok (On verb q shape)) text after report ending count is = is
+count_settled (Ok Replay) text after report ending count is = is
+count_settled (Ok Batch) text after report ending count is = tt
+count_settled (Ok (Workload n)) text after report ending count is = is
+count_settled (Ok (Table ask workers)) text after report ending count is = is
 
 no_part : (a b : Option (List ℕ)) (bs : List ℕ) → AppendsPart a b bs → bs ≢ []
 no_part a b bs part is = absurd (omega (arith, part.short, ap length is))
 
 -- the answer ends on the output as it did on the buffer, or by the flush that failed
-pub settled_ends : (command : Result Command Reason) (left after : Option (List ℕ)) (ending end : Ending) (a b : Option (List ℕ)) (handed : List ℕ) (r : Result (Unit {0}) Failed)
-    → Answers command left after ending (Some []) (Some handed) → AppendsWhole a b r handed → OnOk r (end ≡ ending) → OnErr r (end ≡ WriteFault) → Answers command left after end a b
-settled_ends command left after ending end a b handed (Ok x) ends on kept failed = subst (λ e. Answers command left after e a b) (sym kept) (record {
+settled_from : (command : Result Command Reason) (left after : Option (List ℕ)) (old new : List Seen) (ending end : Ending) (a b : Option (List ℕ)) (handed : List ℕ) (r : Result (Unit {0}) Failed)
+    → Answers command left after old new ending (Some []) (Some handed) → AppendsWhole a b r handed → OnOk r (end ≡ ending) → OnErr r (end ≡ WriteFault) → Answers command left after old new end a b
+settled_from command left after old new ending end a b handed (Ok x) ends on kept failed = subst (λ e. Answers command left after old new e a b) (sym kept) (record {
   text = ends.text;
   is_input = ends.is_input;
-  ends = moved_ends a b handed on command (command_report command ends.text) ending ends.ends;
-  taken = λ e. moved_taken a b handed on command ends.text after (ends.taken e);
+  lists = ends.lists;
+  are_held = ends.are_held;
+  are_told = ends.are_told;
+  count = ends.count;
+  ends = moved_ends a b handed on command ends.count (command_report command ends.text ends.lists) ending ends.ends;
+  is_count = ends.is_count;
+  leaves = ends.leaves;
   usage = ends.usage;
+  failed = ends.failed;
 })
-settled_ends command left after ending end a b handed (Err e) ends on kept failed =
-    let report = command_report command ends.text in
-    let part = cut_ends a b handed e on command report ending ends.ends in
-    subst (λ e. Answers command left after e a b) (sym failed) (record {
+settled_from command left after old new ending end a b handed (Err e) ends on kept failed =
+    let report = command_report command ends.text ends.lists in
+    let part = cut_ends a b handed e on command ends.count report ending ends.ends in
+    subst (λ e. Answers command left after old new e a b) (sym failed) (record {
       text = ends.text;
       is_input = ends.is_input;
+      lists = ends.lists;
+      are_held = ends.are_held;
+      are_told = ends.are_told;
+      count = ends.count;
       ends = part;
-      taken = λ e. cc;
-      usage = (λ u. cc, λ u. absurd (no_part a b (output report) part (refused_silent command ends.text u)));
+      is_count = count_settled command ends.text after report ending ends.count ends.is_count;
+      leaves = λ told are_told. tt;
+      usage = (λ u. cc, λ u. absurd (no_part a b (output report) part (refused_silent command ends.text ends.lists u)));
+      failed = λ number e. cc;
     })
+
+-- where the buffer was empty at the start
+pub settled_ends : (command : Result Command Reason) (left after : Option (List ℕ)) (old new : List Seen) (ending end : Ending) (a b : Option (List ℕ)) (start handed : List ℕ) (r : Result (Unit {0}) Failed) → start ≡ []
+    → Answers command left after old new ending (Some start) (Some handed) → AppendsWhole a b r handed → OnOk r (end ≡ ending) → OnErr r (end ≡ WriteFault) → Answers command left after old new end a b
+settled_ends command left after old new ending end a b start handed r empty ends on kept failed =
+    settled_from command left after old new ending end a b handed r (subst (λ held. Answers command left after old new ending (Some held) (Some handed)) empty ends) on kept failed
 
 -- a fault that was counted once stays counted
 later_fault : (before mid now : ℕ) → Rose before mid → mid ≤ now → Rose before now

@@ -1,8 +1,12 @@
--- The answer to `batch`: the answers to the lines of the input, one after another.
-use Rattle.std.specs.Prelude.{◌≡◌, ◌≤◌, ℕ, ◌+◌, ◌-◌, List, [], ◌∷◌, ◌++◌, take, Option, Some, None, Result, Ok, Err, if◌then◌else◌}
+-- The answer to `batch`: the answers to the lines of the input, one after another. Before each line the catalogues hold one of `lists`.
+use Rattle.std.specs.Prelude.{◌≡◌, ◌≤◌, ℕ, ◌+◌, ◌-◌, Bool, false, List, [], ◌∷◌, ◌++◌, drop, get_or, take, Option, Some, None, Result, Ok, Err, if◌then◌else◌, ⊤}
 use Rattle.std.specs.List.{flat_map}
 use Rattle.std.specs.Io.KnownBytes.{Appends, Keeps}
-use Rattle.design_answers.specs.Unread.{unread_report}
+use Rattle.catalogues.specs.Consulted.{AreHeld, AreTold}
+use Rattle.catalogues.specs.Entries.{Seen}
+use Rattle.catalogues.specs.declared.catalogue.Entry.{Entry}
+use Rattle.design_answers.specs.Answered.{HasOfferFault}
+use Rattle.design_answers.specs.Unread.{asks_catalogues, lists_after, unread_report}
 use Rattle.design_base.specs.declared.limits.TheConstants.{INPUT_MAX}
 use Rattle.design_io.specs.Faults.{Rose}
 use Rattle.design_io.specs.Inputs.{IsInput}
@@ -15,54 +19,88 @@ use Rattle.design_reports.specs.Endings.{message_of}
 use Rattle.design_reports.specs.Reports.{Report, output, silent}
 use Rattle.design_reports.specs.declared.ending.Ending.TheVariants.{Yes, Refused, BadInput}
 use Rattle.design_cli.specs.declared.batching.Stop.{Stop}
-use Rattle.design_cli.specs.declared.batching.Stop.TheVariants.{Memory, Write}
+use Rattle.design_cli.specs.declared.batching.Stop.TheVariants.{Catalogue, Memory, Write}
 
 -- the report on a line, by what is read of it; a line without a word has nothing to answer
-abbrev pub line_report : Result (Option Command) Reason → Report
-line_report (Err reason) = silent (Refused reason)
-line_report (Ok None) = silent Yes
-line_report (Ok (Some command)) = unread_report command
+abbrev pub line_report : Result (Option Command) Reason → List (List Entry) → Report
+line_report (Err reason) lists = silent (Refused reason)
+line_report (Ok None) lists = silent Yes
+line_report (Ok (Some command)) lists = unread_report command lists
 
 -- what is written of a report in a batch: why a line is refused stands on the output
 abbrev pub written : Report → List ℕ
 written report = output report ++ message_of report.ending
 
 -- the answer to a line
-unfoldable pub line_answer : List ℕ → List ℕ
-line_answer line = written (line_report (parse_in_batch line))
+unfoldable pub line_answer : List (List Entry) → List ℕ → List ℕ
+line_answer lists line = written (line_report (parse_in_batch line) lists)
+
+-- what the catalogues hold behind a line, by what is read of it
+abbrev pub left_after : Result (Option Command) Reason → List (List Entry) → List (List Entry)
+left_after (Err reason) lists = lists
+left_after (Ok None) lists = lists
+left_after (Ok (Some command)) lists = lists_after command lists
+
+unfoldable pub lists_behind : List ℕ → List (List Entry) → List (List Entry)
+lists_behind line lists = left_after (parse_in_batch line) lists
+
+-- whether a line asks the catalogues
+abbrev pub line_asks : Result (Option Command) Reason → Bool
+line_asks (Err reason) = false
+line_asks (Ok None) = false
+line_asks (Ok (Some command)) = asks_catalogues command
 
 -- an answer in front of those of a report
 abbrev pub in_front : List ℕ → Report → Report
 in_front answer report = record { lines = answer ∷ report.lines; ending = report.ending }
 
 -- The answers to the lines from this place on, where the input may have so many bytes more. A line that is too long ends them.
-unfoldable pub batch_from : ℕ → ℕ → List InputLine → Report
-batch_from place room [] = silent Yes
-batch_from place room (line ∷ lines) =
-    if fits room line then in_front (line_answer (content_of line)) (batch_from (place + 1) (room - size_of line) lines) else silent (BadInput place)
+unfoldable pub batch_from : ℕ → ℕ → List (List (List Entry)) → List InputLine → Report
+batch_from place room lists [] = silent Yes
+batch_from place room lists (line ∷ lines) =
+    if fits room line then in_front (line_answer (get_or lists 0 []) (content_of line)) (batch_from (place + 1) (room - size_of line) (drop 1 lists) lines) else silent (BadInput place)
 
 -- the answer to `batch`: an answer for each line of the input
-unfoldable pub batch_report : List ℕ → Report
-batch_report input = batch_from 1 INPUT_MAX (lines_of input)
+unfoldable pub batch_report : List ℕ → List (List (List Entry)) → Report
+batch_report input lists = batch_from 1 INPUT_MAX lists (lines_of input)
 
--- The answers to the first of the lines stand, and nothing of those behind them.
-pub record AppendsSome (old new : Option (List ℕ)) (answers : List (List ℕ)) : Type 0 where
-  pub count : ℕ
-  pub appended : Appends old new (flat_map (λ answer. answer) (take count answers))
+-- what the catalogues hold before each of the lines and behind the last, where they are handed from line to line
+unfoldable pub handed_on : List (List Entry) → List InputLine → List (List (List Entry))
+handed_on lists [] = lists ∷ []
+handed_on lists (line ∷ lines) = lists ∷ handed_on (lists_behind (content_of line) lists) lines
 
--- Exactly the answers to the whole lines among the bytes that were taken of a text stand, where `after` is what the input still has.
-pub record TakenStand (text : List ℕ) (after old new : Option (List ℕ)) : Type 0 where
+-- The answers to the first lines stand, and nothing of those behind them.
+abbrev pub AppendsFirst : ℕ → Option (List ℕ) → Option (List ℕ) → List (List ℕ) → Type 0
+AppendsFirst count old new answers = Appends old new (flat_map (λ answer. answer) (take count answers))
+
+-- These are the answers to the whole lines among the bytes that were taken of a text, where `after` is what the input still has.
+pub record AreTaken (text : List ℕ) (after : Option (List ℕ)) (count : ℕ) : Type 0 where
   pub taken : List ℕ
   pub rest : List ℕ
   pub is_text : text ≡ taken ++ rest
   pub is_left : IsInput after rest
-  pub appended : Appends old new (flat_map (λ answer. answer) (take (feeds_in taken) (batch_report text).lines))
+  pub lines : count ≡ feeds_in taken
 
 -- what a line of a batch left on the output
 abbrev pub EndsLine : List ℕ → Result (Unit {0}) Stop → Option (List ℕ) → Option (List ℕ) → Type 0
 EndsLine answer (Ok done) old new = Appends old new answer
 EndsLine answer (Err Memory) old new = Keeps old new
+EndsLine answer (Err (Catalogue number)) old new = Keeps old new
 EndsLine answer (Err Write) old new = AppendsPart old new answer
+
+-- and of the catalogues
+abbrev pub LeavesLine : Result (Unit {0}) Stop → List Seen → List (List Entry) → Type 0
+LeavesLine (Ok done) new lists = AreTold new lists
+LeavesLine (Err Memory) new lists = ⊤
+LeavesLine (Err (Catalogue number)) new lists = ⊤
+LeavesLine (Err Write) new lists = AreTold new lists
+
+-- There are entries, those that the catalogues tell where they do, and the answer to the line on them stands. Where all of them tell, so they do behind it.
+pub record AnswersLine (line : List ℕ) (old new : List Seen) (result : Result (Unit {0}) Stop) (held now : Option (List ℕ)) : Type 0 where
+  pub lists : List (List Entry)
+  pub are_held : AreHeld old lists
+  pub ends : EndsLine (line_answer lists line) result held now
+  pub leaves : AreTold old lists → LeavesLine result new (lists_behind line lists)
 
 -- The count of the output's faults never falls, and the output failed where the batch stops for it.
 pub record StopsWith (result : Result (Unit {0}) Stop) (before now : ℕ) : Type 0 where

@@ -1,18 +1,18 @@
 //! The top call.
-ghost use Rattle.std.specs.Prelude.{◌≡◌, ◌≢◌, List, Ok, OnErr, false, true, ℕ};
+ghost use Rattle.std.specs.Prelude.{◌≡◌, ◌≢◌, ◌<◌, ◌^◌, List, Ok, OnErr, false, length, map, true, ℕ};
 ghost use Rattle.derivations.specs.Laws.{YesLaw};
 ghost use Rattle.design_cli.specs.Laws.{ValidLaw, ValidRowsLaw, ValidSquaresLaw};
-ghost use Rattle.design_cli.specs.Report.{asks_rules, command_of, command_report, reads_input};
-ghost use Rattle.design_cli.specs.Runs.{Answers, RunsOn};
+ghost use Rattle.design_cli.specs.Report.{asks_rules, command_of, is_unbuilt, may_ask, reads_input};
+ghost use Rattle.design_cli.specs.Runs.{Answers, BreaksOn, RunsOn};
 ghost use Rattle.design_io.specs.Faults.{Rose};
 ghost use Rattle.design_lines.specs.Grammar.{IsInBounds};
 ghost use Rattle.design_reports.specs.Answers.{HasFault, HasReadFault, Says};
-ghost use Rattle.design_reports.specs.Reports.{silent};
 ghost use Rattle.rule_table.specs.Laws.{NoLaw, UnknownLaw};
 
 use crate::batching::answer_batch;
 use crate::checking::answer_check;
 use crate::replaying::answer_replay;
+use catalogues::Catalogue;
 use design_answers::{Oracle, answer_unread};
 use design_base::Memory;
 use design_io::{Sink, Source};
@@ -39,7 +39,7 @@ fn plan_of(command: Command) -> Plan
     ensures check { (asked : Asked) → result ≡ Plan.Check asked → command ≡ Command.On Verb.Check asked.query asked.shape }
     ensures replay { result ≡ Plan.Replay → command ≡ Command.Replay }
     ensures rules { result ≡ Plan.Rules → asks_rules command ≡ true }
-    ensures not_built { result ≡ Plan.NotBuilt → (text : List ℕ) → command_report (Ok command) text ≡ silent Ending.NotBuilt }
+    ensures not_built { result ≡ Plan.NotBuilt → is_unbuilt command ≡ true }
 {
     match command {
         Command::On {
@@ -68,24 +68,28 @@ fn answer_by_rules<S: Source, K: Sink, L: Ledger>(
     alloc: Global,
     command: Command,
     input: &mut S,
+    catalogues: &mut Vec<Box<dyn Catalogue>>,
     steps: &mut Steps<L>,
     out: &mut K,
 ) -> Ending
     requires bounds { IsInBounds command }
+    requires few { length catalogues.old.items < 2 ^ 32 }
     requires rules { asks_rules command ≡ true }
-    ensures ends { Answers (Ok command) (S.left input.old) (S.left input.new) result (K.held out.old) (K.held out.new) }
+    ensures ends { Answers (Ok command) (S.left input.old) (S.left input.new) (map seen catalogues.old.items) (map seen catalogues.new.items) result (K.held out.old) (K.held out.new) }
+    ensures broken { result ≡ Ending.WriteFault → BreaksOn (Ok command) (S.left input.old) (map seen catalogues.old.items) (map seen catalogues.new.items) (K.held out.old) (K.held out.new) }
     ensures cause { HasFault result (K.faults out.old) (K.faults out.new) }
     ensures read_cause { HasReadFault result (S.faults input.old) (S.faults input.new) }
     ensures reading { result ≡ Ending.ReadFault → reads_input (Ok command) ≡ true }
     ensures unread { reads_input (Ok command) ≡ false → input.new ≡ input.old }
+    ensures unasked { may_ask (Ok command) ≡ false → catalogues.new ≡ catalogues.old }
 {
     let Ok(mut oracle) = open_oracle(alloc, steps) else {
         return Ending::NoMemory;
     };
     if let Command::Batch = command {
-        return answer_batch(&mut oracle, input, out);
+        return answer_batch(catalogues, &mut oracle, input, out);
     }
-    answer_unread(command, &mut oracle, out)
+    answer_unread(command, catalogues, &mut oracle, out)
 }
 
 // Answers a command.
@@ -94,20 +98,24 @@ fn answer_command<S: Source, K: Sink, L: Ledger>(
     alloc: Global,
     command: Command,
     input: &mut S,
+    catalogues: &mut Vec<Box<dyn Catalogue>>,
     steps: &mut Steps<L>,
     out: &mut K,
 ) -> Ending
-    requires { IsInBounds command }
-    ensures ends { Answers (Ok command) (S.left input.old) (S.left input.new) result (K.held out.old) (K.held out.new) }
+    requires bounds { IsInBounds command }
+    requires few { length catalogues.old.items < 2 ^ 32 }
+    ensures ends { Answers (Ok command) (S.left input.old) (S.left input.new) (map seen catalogues.old.items) (map seen catalogues.new.items) result (K.held out.old) (K.held out.new) }
+    ensures broken { result ≡ Ending.WriteFault → BreaksOn (Ok command) (S.left input.old) (map seen catalogues.old.items) (map seen catalogues.new.items) (K.held out.old) (K.held out.new) }
     ensures cause { HasFault result (K.faults out.old) (K.faults out.new) }
     ensures read_cause { HasReadFault result (S.faults input.old) (S.faults input.new) }
     ensures reading { result ≡ Ending.ReadFault → reads_input (Ok command) ≡ true }
     ensures unread { reads_input (Ok command) ≡ false → input.new ≡ input.old }
+    ensures unasked { may_ask (Ok command) ≡ false → catalogues.new ≡ catalogues.old }
 {
     match plan_of(command) {
         Plan::Check(asked) => answer_check(alloc, &asked.query, asked.shape, input, out),
         Plan::Replay => answer_replay(alloc, input, out),
-        Plan::Rules => answer_by_rules(alloc, command, input, steps, out),
+        Plan::Rules => answer_by_rules(alloc, command, input, catalogues, steps, out),
         Plan::NotBuilt => Ending::NotBuilt,
     }
 }
@@ -118,25 +126,30 @@ pub(crate) fn answer<S: Source, K: Sink, L: Ledger>(
     alloc: Global,
     words: &[String],
     input: &mut S,
+    catalogues: &mut Vec<Box<dyn Catalogue>>,
     steps: &mut Steps<L>,
     out: &mut K,
 ) -> Ending
-    ensures ends { Answers (command_of words.now) (S.left input.old) (S.left input.new) result (K.held out.old) (K.held out.new) }
+    requires { length catalogues.old.items < 2 ^ 32 }
+    ensures ends { Answers (command_of words.now) (S.left input.old) (S.left input.new) (map seen catalogues.old.items) (map seen catalogues.new.items) result (K.held out.old) (K.held out.new) }
+    ensures broken { result ≡ Ending.WriteFault → BreaksOn (command_of words.now) (S.left input.old) (map seen catalogues.old.items) (map seen catalogues.new.items) (K.held out.old) (K.held out.new) }
     ensures cause { HasFault result (K.faults out.old) (K.faults out.new) }
     ensures read_cause { HasReadFault result (S.faults input.old) (S.faults input.new) }
     ensures reading { result ≡ Ending.ReadFault → reads_input (command_of words.now) ≡ true }
     ensures memory { OnErr (command_of words.now) (result ≢ Ending.NoMemory) }
     ensures unread { reads_input (command_of words.now) ≡ false → input.new ≡ input.old }
+    ensures unasked { may_ask (command_of words.now) ≡ false → catalogues.new ≡ catalogues.old }
 {
     match read_words(words) {
-        Ok(command) => answer_command(alloc, command, input, steps, out),
+        Ok(command) => answer_command(alloc, command, input, catalogues, steps, out),
         Err(reason) => Ending::Refused { reason },
     }
 }
 
 /// Answers the words of a command line: writes the report on `out`, and at most one line on `err`, and says how that
-/// ended. The input is read only where the words ask for a check, a replay or a batch. `steps` counts the evaluations that
-/// are begun. Words that are refused are told so before any memory is taken.
+/// ended. The input is read only where the words ask for a check, a replay or a batch. The catalogues, of which there are fewer than
+/// 4,294,967,296, are asked only where `ask` or `build`, alone or in a batch, has a question that the table of rules leaves open. `steps` counts the
+/// evaluations that are begun. Words that are refused are told so before any memory is taken.
 #[tactic(auto, using(rule_table::proofs::Meanings::none_meets, rule_table::proofs::Meanings::unknown_is_open, crate::proofs::Designed::valid_is_design, crate::proofs::Designed::valid_is_array, crate::proofs::Designed::valid_are_squares))]
 pub fn run<S: Source, K: Sink, E: Sink, L: Ledger>(
     alloc: Global,
@@ -144,11 +157,19 @@ pub fn run<S: Source, K: Sink, E: Sink, L: Ledger>(
     input: &mut S,
     out: &mut K,
     err: &mut E,
+    catalogues: &mut Vec<Box<dyn Catalogue>>,
     steps: &mut Steps<L>,
 ) -> Status
-    // There is a text, what the input has left where that is told, whose report this is: the status, the bytes on the output, of
-    // which a part stands after a fault, and the line on the error output.
-    ensures report { RunsOn (command_of words.now) (S.left input.old) (S.left input.new) result (K.held out.old) (K.held out.new) (λ line. Says line (E.held err.old) (E.held err.new) (E.faults err.old) (E.faults err.new)) }
+    requires { length catalogues.old.items < 2 ^ 32 }
+
+    // There are a text, what the input has left where that is told, and entries, those of the catalogues where they are told, whose report this is: the
+    // status, the bytes on the output, of which a part stands after a fault, the line on the error output, and the entries afterwards. The count of
+    // the catalogue that a fault names rose.
+    ensures report { RunsOn (command_of words.now) (S.left input.old) (S.left input.new) (map seen catalogues.old.items) (map seen catalogues.new.items) result (K.held out.old) (K.held out.new) (λ line. Says line (E.held err.old) (E.held err.new) (E.faults err.old) (E.faults err.new)) }
+
+    // After a failed write the catalogues, where all tell, tell what the line leaves at which it failed: of a batch the answers to the lines before it
+    // stand whole.
+    ensures broken { result ≡ Status.WriteFault → BreaksOn (command_of words.now) (S.left input.old) (map seen catalogues.old.items) (map seen catalogues.new.items) (K.held out.old) (K.held out.new) }
 
     // The blocks of a yes are such a design, under a no there is no such design, and a question is unknown exactly where no criterion
     // and no rule applies.
@@ -168,8 +189,9 @@ pub fn run<S: Source, K: Sink, E: Sink, L: Ledger>(
 
     ensures memory { OnErr (command_of words.now) (result ≢ Status.NoMemory) }
     ensures unread { reads_input (command_of words.now) ≡ false → input.new ≡ input.old }
+    ensures unasked { may_ask (command_of words.now) ≡ false → catalogues.new ≡ catalogues.old }
 {
-    let ending = answer(alloc, words, input, steps, out);
+    let ending = answer(alloc, words, input, catalogues, steps, out);
     say(err, ending.message().bytes());
     ending.status()
 }

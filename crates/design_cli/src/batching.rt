@@ -1,13 +1,18 @@
 //! The answer to `batch`: the answers to the lines of the input, one after another.
-ghost use Rattle.std.specs.Prelude.{◌≡◌, ◌≢◌, ℕ, List, Ok, Option};
-ghost use Rattle.design_answers.specs.Unread.{unread_report};
+ghost use Rattle.std.specs.Prelude.{◌≡◌, ◌≢◌, ◌↔◌, ◌<◌, ◌^◌, ℕ, Err, List, Ok, Option, length, map};
+ghost use Rattle.catalogues.specs.Entries.{Seen};
+ghost use Rattle.catalogues.specs.Left.{AreLeft};
+ghost use Rattle.catalogues.specs.declared.catalogue.Entry.{Entry};
+ghost use Rattle.design_answers.specs.Answered.{HasOfferFault, LeavesTold};
 ghost use Rattle.design_base.specs.declared.limits.TheConstants.{INPUT_MAX};
-ghost use Rattle.design_cli.specs.Batches.{EndsLine, StopsWith, line_answer, written};
-ghost use Rattle.design_cli.specs.Runs.{Answers};
+ghost use Rattle.design_cli.specs.Batches.{AnswersLine, EndsLine, LeavesLine, StopsWith, line_asks, written};
+ghost use Rattle.design_cli.specs.Runs.{Answers, BreaksOn};
+ghost use Rattle.design_lines.specs.Grammar.{parse_in_batch};
 ghost use Rattle.design_lines.specs.declared.command.Command.TheVariants.{Batch};
 ghost use Rattle.design_reports.specs.Answers.{EndsWith, HasFault, HasReadFault, IsAnswer};
 ghost use Rattle.design_reports.specs.Reports.{Report};
 
+use catalogues::Catalogue;
 use design_answers::{Oracle, answer_unread};
 use design_base::INPUT_MAX;
 use design_io::{Failed, LineEnd, LineReader, Sink, Source, write_whole};
@@ -21,6 +26,8 @@ use std::sync::ledger::Ledger;
 pub enum Stop {
     /// There was no memory, and nothing was written of the line.
     Memory,
+    /// The offer of the catalogue at this place, from 1, failed, and nothing was written of the line.
+    Catalogue { number: u32 },
     /// The output failed.
     Write,
 }
@@ -29,10 +36,13 @@ pub enum Stop {
 fn end_line<K: Sink>(ending: Ending, out: &mut K) -> Result<(), Stop>
     requires no_read { ending ≢ Ending.ReadFault }
     ensures ends { (report : Report) → (before : Option (List ℕ)) → EndsWith report ending before (K.held out.old) → EndsLine (written report) result before (K.held out.new) }
+    ensures stops { (number : ℕ) → (result ≡ Err (Stop.Catalogue number)) ↔ (ending ≡ Ending.CatalogueFault number) }
+    ensures leaves { (new : List Seen) → (entries : List (List Entry)) → LeavesTold ending new entries → LeavesLine result new entries }
     ensures cause { (before : ℕ) → HasFault ending before (K.faults out.old) → StopsWith result before (K.faults out.new) }
 {
     match ending {
         Ending::NoMemory => return Err(Stop::Memory),
+        Ending::CatalogueFault { number } => return Err(Stop::Catalogue { number }),
         Ending::WriteFault => return Err(Stop::Write),
         _ => {}
     }
@@ -45,31 +55,38 @@ fn end_line<K: Sink>(ending: Ending, out: &mut K) -> Result<(), Stop>
 // Answers a line.
 fn answer_line<K: Sink, A: Asker + Drop, L: Ledger>(
     line: &[u8],
+    catalogues: &mut Vec<Box<dyn Catalogue>>,
     oracle: &mut Oracle<A, L>,
     out: &mut K,
 ) -> Result<(), Stop>
-    ensures ends { EndsLine (line_answer line.now) result (K.held out.old) (K.held out.new) }
+    requires { length catalogues.old.items < 2 ^ 32 }
+    ensures ends { AnswersLine line.now (map seen catalogues.old.items) (map seen catalogues.new.items) result (K.held out.old) (K.held out.new) }
     ensures cause { StopsWith result (K.faults out.old) (K.faults out.new) }
+    ensures offer { (number : ℕ) → result ≡ Err (Stop.Catalogue number) → HasOfferFault (line_asks (parse_in_batch line.now)) (map seen catalogues.old.items) (map seen catalogues.new.items) number }
+    ensures left { AreLeft (map seen catalogues.old.items) (map seen catalogues.new.items) }
 {
     match read_line(line) {
         Err(reason) => end_line(Ending::Refused { reason }, out),
         Ok(None) => Ok(()),
         Ok(Some(command)) => {
-            let ending = answer_unread(command, oracle, out);
+            let ending = answer_unread(command, catalogues, oracle, out);
             end_line(ending, out)
         }
     }
 }
 
-/// Answers `batch`: the lines of the input one after another, until the input is over or refused, a read or a write fails, or there is no
-/// memory for a line. A line that is refused is answered by its usage text, on the output. The input is read as it is answered, over a
+/// Answers `batch`: the lines of the input one after another, until the input is over or refused, a read, an offer or a write fails, or there is
+/// no memory for a line. What the catalogues hold is handed from line to line; there are fewer than 4,294,967,296 of them. A line that is refused is answered by its usage text, on the output. The input is read as it is answered, over a
 /// buffer of fixed size.
 pub fn answer_batch<S: Source, K: Sink, A: Asker + Drop, L: Ledger>(
+    catalogues: &mut Vec<Box<dyn Catalogue>>,
     oracle: &mut Oracle<A, L>,
     input: &mut S,
     out: &mut K,
 ) -> Ending
-    ensures ends { Answers (Ok Batch) (S.left input.old) (S.left input.new) result (K.held out.old) (K.held out.new) }
+    requires { length catalogues.old.items < 2 ^ 32 }
+    ensures ends { Answers (Ok Batch) (S.left input.old) (S.left input.new) (map seen catalogues.old.items) (map seen catalogues.new.items) result (K.held out.old) (K.held out.new) }
+    ensures broken { result ≡ Ending.WriteFault → BreaksOn (Ok Batch) (S.left input.old) (map seen catalogues.old.items) (map seen catalogues.new.items) (K.held out.old) (K.held out.new) }
     ensures cause { HasFault result (K.faults out.old) (K.faults out.new) }
     ensures read_cause { HasReadFault result (S.faults input.old) (S.faults input.new) }
     ensures answered { IsAnswer result }
@@ -82,9 +99,10 @@ pub fn answer_batch<S: Source, K: Sink, A: Asker + Drop, L: Ledger>(
             Err(LineEnd::Failed) => return Ending::ReadFault,
             Err(LineEnd::TooLong { line }) => return Ending::BadInput { line },
         }
-        match answer_line(reader.line(), oracle, out) {
+        match answer_line(reader.line(), catalogues, oracle, out) {
             Ok(()) => {}
             Err(Stop::Memory) => return Ending::NoMemory,
+            Err(Stop::Catalogue { number }) => return Ending::CatalogueFault { number },
             Err(Stop::Write) => return Ending::WriteFault,
         }
     }

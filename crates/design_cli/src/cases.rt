@@ -1,7 +1,8 @@
 //! What tests of the top call share: a line of words on an input, and what comes of it.
-ghost use Rattle.std.specs.Prelude.{◌≡◌, ◌<◌};
+ghost use Rattle.std.specs.Prelude.{◌≡◌, ◌<◌, ◌^◌, length};
 
 use crate::run;
+use catalogues::Catalogue;
 use design_io::{MemorySink, MemorySource};
 use design_reports::Status;
 use rule_table::Steps;
@@ -29,6 +30,15 @@ struct Ran {
     message: MemorySink,
 }
 
+impl Ran {
+    // Whether the run came out as the case says.
+    fn is_as(&self, case: &Case) -> bool {
+        self.status.number() == case.status
+            && self.output.bytes() == case.output.as_bytes()
+            && self.message.bytes() == case.message.as_bytes()
+    }
+}
+
 /// The words of a line.
 pub fn words_of(alloc: Global, text: &str) -> Result<Vec<String>, AllocError> {
     let mut words = Vec::new(alloc);
@@ -43,13 +53,15 @@ fn sink(alloc: Global, failing: u32) -> Result<MemorySink, AllocError> {
     MemorySink::new(alloc, 4096, vec![in alloc; failing]?).map_err(|_| AllocError)
 }
 
-// Runs a case on the input, and counts the steps on a ledger.
+// Runs a case on the input with catalogues at hand, and counts the steps on a ledger.
 fn run_counted<L: Ledger>(
     alloc: Global,
     case: &Case,
     input: Vec<u8>,
+    catalogues: &mut Vec<Box<dyn Catalogue>>,
     blank: Blank,
 ) -> Result<Ran, AllocError>
+    requires few { length catalogues.old.items < 2 ^ 32 }
     requires name { L.name ≡ blank.name }
     requires parts { L.parts ≡ blank.parts }
     requires some { 0 < blank.parts }
@@ -65,6 +77,7 @@ fn run_counted<L: Ledger>(
         &mut input,
         &mut output,
         &mut message,
+        catalogues,
         &mut steps,
     );
     Ok(Ran {
@@ -74,19 +87,40 @@ fn run_counted<L: Ledger>(
     })
 }
 
-// Runs a case on the input.
-fn run_case(alloc: Global, case: &Case, input: Vec<u8>) -> Result<Ran, AllocError> {
-    run_counted::<Brand>(alloc, case, input, Blank::new(1))
+// Runs a case on the input with catalogues at hand.
+fn run_case(
+    alloc: Global,
+    case: &Case,
+    input: Vec<u8>,
+    catalogues: &mut Vec<Box<dyn Catalogue>>,
+) -> Result<Ran, AllocError>
+    requires { length catalogues.old.items < 2 ^ 32 }
+{
+    run_counted::<Brand>(alloc, case, input, catalogues, Blank::new(1))
+}
+
+/// Whether the case comes out so with these catalogues at hand.
+pub fn holds_with(
+    alloc: Global,
+    case: &Case,
+    catalogues: &mut Vec<Box<dyn Catalogue>>,
+) -> Result<bool, AllocError>
+    requires { length catalogues.old.items < 2 ^ 32 }
+{
+    let ran = run_case(
+        alloc,
+        case,
+        case.input.as_bytes().to_vec(alloc)?,
+        catalogues,
+    )?;
+    Ok(ran.is_as(case))
 }
 
 /// Whether the case comes out so on this input, in place of its own.
 pub fn holds_on(alloc: Global, case: &Case, input: Vec<u8>) -> Result<bool, AllocError> {
-    let ran = run_case(alloc, case, input)?;
-    Ok(
-        ran.status.number() == case.status
-            && ran.output.bytes() == case.output.as_bytes()
-            && ran.message.bytes() == case.message.as_bytes(),
-    )
+    let mut none: Vec<Box<dyn Catalogue>> = Vec::new(alloc);
+    let ran = run_case(alloc, case, input, &mut none)?;
+    Ok(ran.is_as(case))
 }
 
 /// Whether the case comes out so.

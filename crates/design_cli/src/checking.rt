@@ -1,5 +1,5 @@
 //! The answer to `check`: what the check of the input's blocks finds.
-ghost use Rattle.std.specs.Prelude.{◌≡◌, ◌≢◌, ◌≤◌, IfOk, length, true};
+ghost use Rattle.std.specs.Prelude.{◌≡◌, ◌≢◌, ◌≤◌, IfOk, length, true, ℕ};
 ghost use Rattle.design_base.specs.Limits.{in_bounds};
 ghost use Rattle.design_base.specs.declared.limits.TheConstants.{INPUT_MAX};
 ghost use Rattle.design_checks.specs.Findings.{finding as finding_of};
@@ -29,6 +29,7 @@ fn answer_finding<K: Sink>(query: &Query, finding: Finding, out: &mut K) -> Endi
     ensures ends { EndsWith (found_report query.now finding) result (K.held out.old) (K.held out.new) }
     ensures cause { HasFault result (K.faults out.old) (K.faults out.new) }
     ensures answered { IsAnswer result }
+    ensures no_offer { (number : ℕ) → result ≢ Ending.CatalogueFault number }
     ensures no_read { result ≢ Ending.ReadFault }
     ensures memory { result ≢ Ending.NoMemory }
 {
@@ -120,6 +121,7 @@ fn answer_text<K: Sink>(
     ensures ends { EndsWith (text_report query.now shape (block_text text.items)) result (K.held out.old) (K.held out.new) }
     ensures cause { HasFault result (K.faults out.old) (K.faults out.new) }
     ensures answered { IsAnswer result }
+    ensures no_offer { (number : ℕ) → result ≢ Ending.CatalogueFault number }
     ensures no_read { result ≢ Ending.ReadFault }
 {
     let lines = match read_blocks(alloc, &text, shortest(shape)) {
@@ -135,7 +137,7 @@ fn answer_text<K: Sink>(
 }
 
 /// Answers `check` on a question in bounds. The whole input is read before anything of it is looked at.
-#[tactic(auto, using(crate::proofs::Endings::unread_answers))]
+#[tactic(auto, using(crate::proofs::Endings::unread_answers, crate::proofs::Endings::unread_offers))]
 pub fn answer_check<S: Source, K: Sink>(
     alloc: Global,
     query: &Query,
@@ -148,6 +150,7 @@ pub fn answer_check<S: Source, K: Sink>(
     ensures cause { HasFault result (K.faults out.old) (K.faults out.new) }
     ensures read_cause { HasReadFault result (S.faults input.old) (S.faults input.new) }
     ensures answered { IsAnswer result }
+    ensures no_offer { (number : ℕ) → result ≢ Ending.CatalogueFault number }
 {
     let text = match read_all(alloc, input, INPUT_MAX) {
         Ok(text) => text,

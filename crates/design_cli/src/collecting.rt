@@ -1,8 +1,8 @@
 //! The top call over an output that gets the report in few pieces.
-ghost use Rattle.std.specs.Prelude.{◌≡◌, ◌≢◌, OnErr, OnOk, false, true};
+ghost use Rattle.std.specs.Prelude.{◌≡◌, ◌≢◌, ◌<◌, ◌^◌, OnErr, OnOk, false, length, map, true};
 ghost use Rattle.derivations.specs.Laws.{YesLaw};
 ghost use Rattle.design_cli.specs.Laws.{ValidLaw, ValidRowsLaw, ValidSquaresLaw};
-ghost use Rattle.design_cli.specs.Report.{command_of, reads_input};
+ghost use Rattle.design_cli.specs.Report.{command_of, may_ask, reads_input};
 ghost use Rattle.design_cli.specs.Runs.{Answers, RunsOn};
 ghost use Rattle.design_io.specs.Buffers.{handed};
 ghost use Rattle.design_io.specs.Faults.{HasCause, Rose};
@@ -11,6 +11,7 @@ ghost use Rattle.design_reports.specs.Answers.{HasFault, HasReadFault, Says};
 ghost use Rattle.rule_table.specs.Laws.{NoLaw, UnknownLaw};
 
 use crate::answering::answer;
+use catalogues::Catalogue;
 use design_io::{Buffered, Failed, Origin, Sink, Source};
 use design_reports::{Ending, Status, say};
 use rule_table::Steps;
@@ -43,19 +44,22 @@ fn answer_buffered<S: Source, K: Sink, L: Ledger, O: Origin>(
     alloc: Global,
     words: &[String],
     input: &mut S,
+    catalogues: &mut Vec<Box<dyn Catalogue>>,
     steps: &mut Steps<L>,
     out: K,
 ) -> (Ending, K)
-    requires { O.start ≡ K.held out }
-    ensures ends { Answers (command_of words.now) (S.left input.old) (S.left input.new) result.0 (K.held out) (K.held result.1) }
+    requires few { length catalogues.old.items < 2 ^ 32 }
+    requires start { O.start ≡ K.held out }
+    ensures ends { Answers (command_of words.now) (S.left input.old) (S.left input.new) (map seen catalogues.old.items) (map seen catalogues.new.items) result.0 (K.held out) (K.held result.1) }
     ensures cause { HasFault result.0 (K.faults out) (K.faults result.1) }
     ensures read_cause { HasReadFault result.0 (S.faults input.old) (S.faults input.new) }
     ensures reading { result.0 ≡ Ending.ReadFault → reads_input (command_of words.now) ≡ true }
     ensures memory { OnErr (command_of words.now) (result.0 ≢ Ending.NoMemory) }
     ensures unread { reads_input (command_of words.now) ≡ false → input.new ≡ input.old }
+    ensures unasked { may_ask (command_of words.now) ≡ false → catalogues.new ≡ catalogues.old }
 {
     let mut buffered = Buffered::<K, O>::new(out);
-    let ending = answer(alloc, words, input, steps, &mut buffered);
+    let ending = answer(alloc, words, input, catalogues, steps, &mut buffered);
     let (end, inner) = flushed(buffered);
     (settled(ending, end), inner)
 }
@@ -69,11 +73,15 @@ pub fn run_buffered<S: Source, K: Sink, E: Sink, L: Ledger>(
     input: &mut S,
     out: K,
     err: &mut E,
+    catalogues: &mut Vec<Box<dyn Catalogue>>,
     steps: &mut Steps<L>,
 ) -> (Status, K)
-    // There is a text, what the input has left where that is told, whose report this is: the status, the bytes on the output, of
-    // which a part stands after a fault, and the line on the error output.
-    ensures report { RunsOn (command_of words.now) (S.left input.old) (S.left input.new) result.0 (K.held out) (K.held result.1) (λ line. Says line (E.held err.old) (E.held err.new) (E.faults err.old) (E.faults err.new)) }
+    requires { length catalogues.old.items < 2 ^ 32 }
+
+    // There are a text, what the input has left where that is told, and entries, those of the catalogues where they are told, whose report this is: the
+    // status, the bytes on the output, of which a part stands after a fault, the line on the error output, and the entries afterwards. The count of
+    // the catalogue that a fault names rose.
+    ensures report { RunsOn (command_of words.now) (S.left input.old) (S.left input.new) (map seen catalogues.old.items) (map seen catalogues.new.items) result.0 (K.held out) (K.held result.1) (λ line. Says line (E.held err.old) (E.held err.new) (E.faults err.old) (E.faults err.new)) }
 
     // The blocks of a yes are such a design, under a no there is no such design, and a question is unknown exactly where no criterion
     // and no rule applies.
@@ -93,8 +101,11 @@ pub fn run_buffered<S: Source, K: Sink, E: Sink, L: Ledger>(
 
     ensures memory { OnErr (command_of words.now) (result.0 ≢ Status.NoMemory) }
     ensures unread { reads_input (command_of words.now) ≡ false → input.new ≡ input.old }
+    ensures unasked { may_ask (command_of words.now) ≡ false → catalogues.new ≡ catalogues.old }
 {
-    let (ending, inner) = answer_buffered::<S, K, L, Brand>(alloc, words, input, steps, out);
+    let (ending, inner) = answer_buffered::<S, K, L, Brand>(
+        alloc, words, input, catalogues, steps, out,
+    );
     say(err, ending.message().bytes());
     (ending.status(), inner)
 }

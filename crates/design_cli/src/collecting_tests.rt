@@ -3,6 +3,7 @@ ghost use Rattle.std.specs.Prelude.{◌≡◌, ◌<◌};
 
 use crate::cases::{Case, words_of};
 use crate::run_buffered;
+use catalogues::Catalogue;
 use design_io::{MemorySink, MemorySource};
 use design_reports::Status;
 use rule_table::Steps;
@@ -48,6 +49,7 @@ fn run_counted<L: Ledger>(
     let Ok(mut message) = MemorySink::new(alloc, 64, Vec::new(alloc)) else {
         return Err(AllocError);
     };
+    let mut catalogues: Vec<Box<dyn Catalogue>> = Vec::new(alloc);
     let mut steps = Steps::<L>::new(blank);
     let (status, arrived) = run_buffered(
         alloc,
@@ -55,6 +57,7 @@ fn run_counted<L: Ledger>(
         &mut input,
         output,
         &mut message,
+        &mut catalogues,
         &mut steps,
     );
     Ok(Ran {

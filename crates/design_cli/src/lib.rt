@@ -15,6 +15,8 @@ mod batch_tests;
 #[cfg(test)]
 mod cases;
 #[cfg(test)]
+mod catalogue_tests;
+#[cfg(test)]
 mod check_tests;
 #[cfg(test)]
 mod collecting_tests;

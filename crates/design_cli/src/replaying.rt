@@ -1,5 +1,5 @@
 //! The answer to `replay`: what the derivation that the input holds leads to.
-ghost use Rattle.std.specs.Prelude.{◌≡◌, ◌≢◌, ◌++◌, ◌<◌, ◌≤◌, length, true};
+ghost use Rattle.std.specs.Prelude.{◌≡◌, ◌≢◌, ◌++◌, ◌<◌, ◌≤◌, length, true, ℕ};
 ghost use Rattle.std.specs.List.{flat_map};
 ghost use Rattle.derivation_text.specs.Grammar.{parse_input as input_derivation};
 ghost use Rattle.derivations.specs.Derivations.{fault as fault_of};
@@ -29,6 +29,7 @@ fn answer_fault<K: Sink>(fault: Fault, out: &mut K) -> Ending
     ensures ends { EndsWith (fault_report fault) result (K.held out.old) (K.held out.new) }
     ensures cause { HasFault result (K.faults out.old) (K.faults out.new) }
     ensures answered { IsAnswer result }
+    ensures no_offer { (number : ℕ) → result ≢ Ending.CatalogueFault number }
     ensures no_read { result ≢ Ending.ReadFault }
 {
     match write_fault(out, fault) {
@@ -56,6 +57,7 @@ fn answer_design<K: Sink>(query: &Query, blocks: Rows, out: &mut K) -> Ending
     ensures ends { EndsWith (design_report query.now blocks) result (K.held out.old) (K.held out.new) }
     ensures cause { HasFault result (K.faults out.old) (K.faults out.new) }
     ensures answered { IsAnswer result }
+    ensures no_offer { (number : ℕ) → result ≢ Ending.CatalogueFault number }
     ensures no_read { result ≢ Ending.ReadFault }
 {
     match write_design(out, query, &Part::Blocks(blocks)) {
@@ -70,6 +72,7 @@ fn answer_derivation<K: Sink>(alloc: Global, lines: &Derivation, out: &mut K) ->
     ensures ends { EndsWith (derivation_report lines.now (fault_of lines.now)) result (K.held out.old) (K.held out.new) }
     ensures cause { HasFault result (K.faults out.old) (K.faults out.new) }
     ensures answered { IsAnswer result }
+    ensures no_offer { (number : ℕ) → result ≢ Ending.CatalogueFault number }
     ensures no_read { result ≢ Ending.ReadFault }
 {
     let tools = Tools::new(alloc);
@@ -86,6 +89,7 @@ fn answer_text<K: Sink>(alloc: Global, text: Vec<u8>, out: &mut K) -> Ending
     ensures ends { EndsWith (read_report (input_derivation text.items)) result (K.held out.old) (K.held out.new) }
     ensures cause { HasFault result (K.faults out.old) (K.faults out.new) }
     ensures answered { IsAnswer result }
+    ensures no_offer { (number : ℕ) → result ≢ Ending.CatalogueFault number }
     ensures no_read { result ≢ Ending.ReadFault }
 {
     let lines = match parse_input(alloc, &text) {
@@ -98,12 +102,13 @@ fn answer_text<K: Sink>(alloc: Global, text: Vec<u8>, out: &mut K) -> Ending
 }
 
 /// Answers `replay`. The whole input is read before anything of it is looked at.
-#[tactic(auto, using(crate::proofs::Endings::unread_answers))]
+#[tactic(auto, using(crate::proofs::Endings::unread_answers, crate::proofs::Endings::unread_offers))]
 pub fn answer_replay<S: Source, K: Sink>(alloc: Global, input: &mut S, out: &mut K) -> Ending
     ensures ends { EndsOn (S.left input.old) replay_report result (K.held out.old) (K.held out.new) }
     ensures cause { HasFault result (K.faults out.old) (K.faults out.new) }
     ensures read_cause { HasReadFault result (S.faults input.old) (S.faults input.new) }
     ensures answered { IsAnswer result }
+    ensures no_offer { (number : ℕ) → result ≢ Ending.CatalogueFault number }
 {
     let text = match read_all(alloc, input, INPUT_MAX) {
         Ok(text) => text,

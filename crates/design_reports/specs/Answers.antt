@@ -4,37 +4,23 @@ use Rattle.std.specs.Io.KnownBytes.{Appends, Keeps}
 use Rattle.design_io.specs.Faults.{Rose}
 use Rattle.design_io.specs.Pieces.{AppendsPart}
 use Rattle.design_reports.specs.declared.ending.Ending.{Ending}
-use Rattle.design_reports.specs.declared.ending.Ending.TheVariants.{NoMemory as WantOfMemory, ReadFault as FailedRead, WriteFault as FailedWrite}
-use Rattle.design_reports.specs.declared.status.Status.{Status}
-use Rattle.design_reports.specs.declared.status.Status.TheVariants.{Usage, NoMemory, ReadFault, WriteFault}
-use Rattle.design_reports.specs.Endings.{message_of, status_of}
+use Rattle.design_reports.specs.declared.ending.Ending.TheVariants.{CatalogueFault as FailedOffer, NoMemory as WantOfMemory, ReadFault as FailedRead, WriteFault as FailedWrite}
+use Rattle.design_reports.specs.declared.status.Status.TheVariants.{Usage}
+use Rattle.design_reports.specs.Endings.{status_of}
 use Rattle.design_reports.specs.Reports.{Report, output}
 
--- An answer ends with a part of its report, by `Cut`, for want of memory and after a read that failed, with a proper prefix of
--- the report after a write that failed, and else with the whole report and its ending.
+-- An answer ends with a part of its report, by `Cut`, for want of memory, after a read that failed and after an offer that failed,
+-- with a proper prefix of the report after a write that failed, and else with the whole report and its ending.
 abbrev pub EndsCut : (Option (List ℕ) → Option (List ℕ) → Type 0) → Report → Ending → Option (List ℕ) → Option (List ℕ) → Type 0
 EndsCut Cut report WantOfMemory old new = Cut old new
 EndsCut Cut report FailedRead old new = Cut old new
+EndsCut Cut report (FailedOffer number) old new = Cut old new
 EndsCut Cut report FailedWrite old new = AppendsPart old new (output report)
 EndsCut Cut report ending old new = (ending ≡ report.ending) × Appends old new (output report)
 
 -- The same, where an answer that is cut leaves nothing on the output.
 abbrev pub EndsWith : Report → Ending → Option (List ℕ) → Option (List ℕ) → Type 0
 EndsWith report ending old new = EndsCut Keeps report ending old new
-
--- the same of the status of a run
-abbrev pub EndsAs : (Option (List ℕ) → Option (List ℕ) → Type 0) → Report → Status → Option (List ℕ) → Option (List ℕ) → Type 0
-EndsAs Cut report NoMemory old new = Cut old new
-EndsAs Cut report ReadFault old new = Cut old new
-EndsAs Cut report WriteFault old new = AppendsPart old new (output report)
-EndsAs Cut report status old new = (status ≡ status_of report.ending) × Appends old new (output report)
-
--- the line on the error output at each status
-abbrev pub message_at : Report → Status → List ℕ
-message_at report NoMemory = message_of WantOfMemory
-message_at report ReadFault = message_of FailedRead
-message_at report WriteFault = message_of FailedWrite
-message_at report status = message_of report.ending
 
 -- an answer to words that are answered
 abbrev pub IsAnswer : Ending → Type 0

@@ -6,9 +6,9 @@ use Rattle.design_lines.specs.Printed.{counted_line, line_of}
 use Rattle.design_io.specs.declared.reading.ReadEnd.{ReadEnd}
 use Rattle.design_io.specs.declared.reading.ReadEnd.TheVariants.{Failed, TooLong, Memory}
 use Rattle.design_reports.specs.declared.ending.Ending.{Ending}
-use Rattle.design_reports.specs.declared.ending.Ending.TheVariants.{Yes, No, Unknown as UnknownEnding, Refused, NotBuilt, BadInput, ReadFault, NoMemory, WriteFault}
+use Rattle.design_reports.specs.declared.ending.Ending.TheVariants.{Yes, No, Unknown as UnknownEnding, Refused, NotBuilt, BadInput, ReadFault, CatalogueFault, NoMemory, WriteFault}
 use Rattle.design_reports.specs.declared.status.Status.{Status}
-use Rattle.design_reports.specs.declared.status.Status.TheVariants.{Yes as YesStatus, No as NoStatus, Unknown as UnknownStatus, Usage as UsageStatus, BadInput as BadInputStatus, ReadFault as ReadFaultStatus, NoMemory as NoMemoryStatus, WriteFault as WriteFaultStatus}
+use Rattle.design_reports.specs.declared.status.Status.TheVariants.{Yes as YesStatus, No as NoStatus, Unknown as UnknownStatus, Usage as UsageStatus, BadInput as BadInputStatus, ReadFault as ReadFaultStatus, CatalogueFault as CatalogueFaultStatus, NoMemory as NoMemoryStatus, WriteFault as WriteFaultStatus}
 
 -- the number that the program ends with
 abbrev pub number_of : Status → ℕ
@@ -18,6 +18,7 @@ number_of UnknownStatus = 2
 number_of UsageStatus = 64
 number_of BadInputStatus = 65
 number_of ReadFaultStatus = 66
+number_of CatalogueFaultStatus = 69
 number_of NoMemoryStatus = 71
 number_of WriteFaultStatus = 74
 
@@ -29,6 +30,7 @@ status_of (Refused reason) = UsageStatus
 status_of NotBuilt = UsageStatus
 status_of (BadInput line) = BadInputStatus
 status_of ReadFault = ReadFaultStatus
+status_of (CatalogueFault number) = CatalogueFaultStatus
 status_of NoMemory = NoMemoryStatus
 status_of WriteFault = WriteFaultStatus
 
@@ -49,6 +51,7 @@ message_of (Refused reason) = refusal_line reason
 message_of NotBuilt = line_of (codes "usage: not built" ∷ [])
 message_of (BadInput line) = counted_line (codes "bad input at line") line
 message_of ReadFault = line_of (codes "read fault" ∷ [])
+message_of (CatalogueFault number) = counted_line (codes "catalogue fault at") number
 message_of NoMemory = line_of (codes "no memory" ∷ [])
 message_of WriteFault = line_of (codes "write fault" ∷ [])
 

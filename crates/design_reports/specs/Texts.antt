@@ -47,6 +47,14 @@ finding_words (BadPair x y count) = codes "invalid pair" ∷ decimal x ∷ decim
 unfoldable pub finding_line : Query → Finding → List ℕ
 finding_line q finding = line_of (question_text q ∷ finding_words finding)
 
+-- what the check of an offer found, where that is no design; the number is that of its catalogue
+unfoldable pub refused_offer_line : ℕ → Finding → List ℕ
+refused_offer_line number finding = line_of (codes "offer" ∷ decimal number ∷ finding_words finding)
+
+-- an offer of so many blocks that are a design
+unfoldable pub valid_offer_line : ℕ → ℕ → List ℕ
+valid_offer_line number b = line_of (codes "offer" ∷ decimal number ∷ codes "valid" ∷ decimal b ∷ codes "blocks" ∷ [])
+
 -- the printed name of what is wrong with a line of a derivation
 abbrev pub fault_word : LineFault → List ℕ
 fault_word OutOfBounds = codes "out of bounds"

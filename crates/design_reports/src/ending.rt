@@ -23,6 +23,8 @@ pub enum Ending {
     /// The input is bad at this line.
     BadInput { line: u32 },
     ReadFault,
+    /// The offer of the catalogue at this place, from 1, failed.
+    CatalogueFault { number: u32 },
     NoMemory,
     WriteFault,
 }
@@ -95,6 +97,7 @@ impl Ending {
             Ending::Refused { .. } | Ending::NotBuilt => Status::Usage,
             Ending::BadInput { .. } => Status::BadInput,
             Ending::ReadFault => Status::ReadFault,
+            Ending::CatalogueFault { .. } => Status::CatalogueFault,
             Ending::NoMemory => Status::NoMemory,
             Ending::WriteFault => Status::WriteFault,
         }
@@ -111,6 +114,9 @@ impl Ending {
             Ending::NotBuilt => said("usage: not built"),
             Ending::BadInput { line } => counted_line("bad input at line", u64::from(line)),
             Ending::ReadFault => said("read fault"),
+            Ending::CatalogueFault { number } => {
+                counted_line("catalogue fault at", u64::from(number))
+            }
             Ending::NoMemory => said("no memory"),
             Ending::WriteFault => said("write fault"),
         }

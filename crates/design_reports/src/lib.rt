@@ -9,7 +9,10 @@ mod saying;
 mod status;
 
 pub use ending::Ending;
-pub use lines::{write_because, write_counted, write_fault, write_finding, write_verdict};
+pub use lines::{
+    write_because, write_counted, write_fault, write_finding, write_refused_offer,
+    write_valid_offer, write_verdict,
+};
 pub use parts::{Part, part_of_blocks, write_part};
 pub use saying::say;
 pub use status::Status;

@@ -1,12 +1,12 @@
 //! The lines of a report, each put together in place and written whole.
-ghost use Rattle.std.specs.Prelude.{◌≡◌, ◌<◌, ◌≤◌, [], ◌∷◌, All, Some, length, slice_range};
+ghost use Rattle.std.specs.Prelude.{◌≡◌, ◌+◌, ◌<◌, ◌≤◌, [], ◌∷◌, All, Some, length, slice_range};
 ghost use Rattle.std.specs.Fmt.{decimal};
 ghost use Rattle.std.specs.List.{flat_map};
 ghost use Rattle.design_io.specs.Faults.{HasCause};
 ghost use Rattle.design_io.specs.Pieces.{AppendsWhole};
 ghost use Rattle.design_base.specs.declared.limits.TheConstants.{POINTS_MAX};
-ghost use Rattle.design_lines.specs.Printed.{counted_line as counted_text};
-ghost use Rattle.design_reports.specs.Texts.{because_lines as because_texts, fault_line as fault_text, fault_word, finding_line as finding_text, row_line as row_text, verdict_line as verdict_text};
+ghost use Rattle.design_lines.specs.Printed.{counted_line as counted_text, with_words};
+ghost use Rattle.design_reports.specs.Texts.{because_lines as because_texts, fault_line as fault_text, fault_word, finding_line as finding_text, finding_words, refused_offer_line as refused_offer_text, row_line as row_text, valid_offer_line as valid_offer_text, verdict_line as verdict_text};
 
 use derivations::{Fault, LineFault};
 use design_base::{Query, Verdict};
@@ -50,56 +50,66 @@ fn because_line(first: u32, second: u32) -> TextLine
     line
 }
 
-// That the blocks are valid.
-#[tactic(auto, using(crate::proofs::Words::question_lines), unfolding(crate::specs::Texts::finding_line))]
-fn valid_line(query: &Query) -> TextLine
-    ensures { result ≡ finding_text query.now Finding.Valid }
+// Appends what the check of blocks found.
+fn push_finding(line: &mut TextLine, finding: Finding)
+    requires room { length line.old ≤ 100 }
+    ensures words { line.new ≡ with_words line.old (finding_words finding) }
+    ensures short { length line.new ≤ length line.old + 100 }
 {
-    let mut line = TextLine::new();
-    line.push_word(question_text(query).bytes());
-    line.push_word(b"valid");
-    line.end();
-    line
-}
-
-// The first bad block.
-#[tactic(auto, using(crate::proofs::Words::question_lines), unfolding(crate::specs::Texts::finding_line))]
-fn bad_block_line(query: &Query, index: u32) -> TextLine
-    ensures { result ≡ finding_text query.now (Finding.BadBlock index) }
-{
-    let mut line = TextLine::new();
-    line.push_word(question_text(query).bytes());
-    line.push_word(b"invalid block");
-    line.push_number(u64::from(index));
-    line.end();
-    line
-}
-
-// The first bad pair.
-#[tactic(auto, using(crate::proofs::Words::question_lines), unfolding(crate::specs::Texts::finding_line))]
-fn bad_pair_line(query: &Query, x: u16, y: u16, count: u32) -> TextLine
-    ensures { result ≡ finding_text query.now (Finding.BadPair x y count) }
-{
-    let mut line = TextLine::new();
-    line.push_word(question_text(query).bytes());
-    line.push_word(b"invalid pair");
-    line.push_number(u64::from(x));
-    line.push_number(u64::from(y));
-    line.push_word(b"covered");
-    line.push_number(u64::from(count));
-    line.end();
-    line
+    match finding {
+        Finding::Valid => line.push_word(b"valid"),
+        Finding::BadBlock { index } => {
+            line.push_word(b"invalid block");
+            line.push_number(u64::from(index));
+        }
+        Finding::BadPair { x, y, count } => {
+            line.push_word(b"invalid pair");
+            line.push_number(u64::from(x));
+            line.push_number(u64::from(y));
+            line.push_word(b"covered");
+            line.push_number(u64::from(count));
+        }
+    }
 }
 
 // What the check of blocks found.
+#[tactic(auto, using(crate::proofs::Words::finding_joined), unfolding(crate::specs::Texts::finding_line))]
 fn finding_line(query: &Query, finding: Finding) -> TextLine
     ensures { result ≡ finding_text query.now finding }
 {
-    match finding {
-        Finding::Valid => valid_line(query),
-        Finding::BadBlock { index } => bad_block_line(query, index),
-        Finding::BadPair { x, y, count } => bad_pair_line(query, x, y, count),
-    }
+    let mut line = TextLine::new();
+    line.push_word(question_text(query).bytes());
+    push_finding(&mut line, finding);
+    line.end();
+    line
+}
+
+// What the check of an offer found.
+#[tactic(auto, using(crate::proofs::Words::offer_joined), unfolding(crate::specs::Texts::refused_offer_line))]
+fn refused_offer_line(number: u32, finding: Finding) -> TextLine
+    ensures { result ≡ refused_offer_text number finding }
+{
+    let mut line = TextLine::new();
+    line.push_word(b"offer");
+    line.push_number(u64::from(number));
+    push_finding(&mut line, finding);
+    line.end();
+    line
+}
+
+// That an offer is a design.
+#[tactic(auto, using(crate::proofs::Words::valid_joined), unfolding(crate::specs::Texts::valid_offer_line))]
+fn valid_offer_line(number: u32, blocks: usize) -> TextLine
+    ensures { result ≡ valid_offer_text number blocks }
+{
+    let mut line = TextLine::new();
+    line.push_word(b"offer");
+    line.push_number(u64::from(number));
+    line.push_word(b"valid");
+    line.push_number(blocks as u64);
+    line.push_word(b"blocks");
+    line.end();
+    line
 }
 
 // The printed name of what is wrong with a line of a derivation.
@@ -191,6 +201,26 @@ pub fn write_finding<K: Sink>(out: &mut K, query: &Query, finding: Finding) -> R
     ensures cause { HasCause (K.faults out.old) (K.faults out.new) result }
 {
     write_whole(out, finding_line(query, finding).bytes())
+}
+
+/// Writes what the check of an offer found, where that is no design, with the number of its catalogue.
+pub fn write_refused_offer<K: Sink>(
+    out: &mut K,
+    number: u32,
+    finding: Finding,
+) -> Result<(), Failed>
+    ensures bytes { AppendsWhole (K.held out.old) (K.held out.new) result (refused_offer_text number finding) }
+    ensures cause { HasCause (K.faults out.old) (K.faults out.new) result }
+{
+    write_whole(out, refused_offer_line(number, finding).bytes())
+}
+
+/// Writes that an offer of so many blocks is a design, with the number of its catalogue.
+pub fn write_valid_offer<K: Sink>(out: &mut K, number: u32, blocks: usize) -> Result<(), Failed>
+    ensures bytes { AppendsWhole (K.held out.old) (K.held out.new) result (valid_offer_text number blocks) }
+    ensures cause { HasCause (K.faults out.old) (K.faults out.new) result }
+{
+    write_whole(out, valid_offer_line(number, blocks).bytes())
 }
 
 /// Writes the fault of a derivation: the number of its line, and what is wrong with that.

@@ -5,11 +5,11 @@ ghost use Rattle.design_reports.specs.Endings.{number_of};
 /// How a run ends.
 #[derive(Clone, Copy, Debug, PartialEq, Eq)]
 pub enum Status {
-    /// The design exists; the blocks are valid.
+    /// The design exists, or one is handed in; the blocks are valid.
     Yes,
     /// The design does not exist; the blocks are not valid.
     No,
-    /// The table of rules does not tell.
+    /// The table of rules does not tell, and no design is handed in.
     Unknown,
     /// The words are no line that is answered.
     Usage,
@@ -17,6 +17,8 @@ pub enum Status {
     BadInput,
     /// The input could not be read.
     ReadFault,
+    /// A catalogue could not be asked.
+    CatalogueFault,
     /// There was no memory.
     NoMemory,
     /// The output could not be written.
@@ -35,6 +37,7 @@ impl Status {
             Status::Usage => 64,
             Status::BadInput => 65,
             Status::ReadFault => 66,
+            Status::CatalogueFault => 69,
             Status::NoMemory => 71,
             Status::WriteFault => 74,
         }

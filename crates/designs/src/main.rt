@@ -3,17 +3,22 @@
 
 ghost use Rattle.std.specs.Prelude.{◌≡◌, ◌<◌};
 
+use catalogues::{Catalogue, SourceCatalogue};
 use design_cli::run_buffered;
 use design_io::{StdSink, StdSource};
 use design_reports::Status;
 use rule_table::Steps;
+use std::alloc::AllocError;
 use std::marker::Brand;
 use std::process::ExitCode;
 use std::rt::Env;
 use std::sync::ledger::{Blank, Ledger};
-use std::{env, io};
+use std::{env, fs, io};
 
-// Why the words of the command line are not at hand.
+/// The file of the current folder whose designs are offered for open questions, where it is there.
+const CATALOGUE: &str = "designs.catalogue";
+
+// Why the words of the command line are not answered.
 #[derive(Clone, Copy, Debug, PartialEq, Eq)]
 enum StartEnd {
     Words,
@@ -45,28 +50,50 @@ fn words_of<R: Env + AllocGlobal>(rt: &R) -> Result<Vec<String>, StartEnd> {
     Ok(words)
 }
 
-// Answers the words on the standard streams, and counts on a ledger of its own.
-fn answer<L: Ledger>(rt: &HostRuntime, words: &[String], blank: Blank) -> Status
+// Answers the words on the standard streams, with the catalogue of the current folder at hand, and counts on a ledger of its own.
+fn answer<L: Ledger>(rt: &HostRuntime, words: &[String], blank: Blank) -> Result<Status, AllocError>
     requires name { L.name ≡ blank.name }
     requires parts { L.parts ≡ blank.parts }
     requires some { 0 < blank.parts }
 {
+    let alloc = rt.alloc();
+    let mut catalogues: Vec<Box<dyn Catalogue>> = Vec::new(alloc);
+    if let Ok(file) = fs::open(rt, CATALOGUE) {
+        let catalogue = SourceCatalogue::new(alloc, StdSource::new(file));
+        catalogues.push(Box::new(alloc, catalogue)?)?;
+    }
     let mut input = StdSource::new(rt.stdin());
     let out = StdSink::new(rt.stdout());
     let mut err = StdSink::new(rt.stderr());
     let mut steps = Steps::<L>::new(blank);
-    let (status, _) = run_buffered(rt.alloc(), words, &mut input, out, &mut err, &mut steps);
-    status
+    let (status, _) = run_buffered(
+        alloc,
+        words,
+        &mut input,
+        out,
+        &mut err,
+        &mut catalogues,
+        &mut steps,
+    );
+    Ok(status)
+}
+
+// Answers the words of the command line.
+fn answer_words(rt: &HostRuntime) -> Result<Status, StartEnd> {
+    let words = words_of(rt)?;
+    match answer::<Brand>(rt, &words, Blank::new(1)) {
+        Ok(status) => Ok(status),
+        Err(_) => Err(StartEnd::Memory),
+    }
 }
 
 fn main(rt: HostRuntime) -> ExitCode {
-    let words = match words_of(&rt) {
-        Ok(words) => words,
+    match answer_words(&rt) {
+        Ok(status) => ExitCode::from(status.number()),
         Err(end) => {
             let (text, status) = end.parts();
             let _ = eprintln!(rt; "{text}");
-            return ExitCode::from(status);
+            ExitCode::from(status)
         }
-    };
-    ExitCode::from(answer::<Brand>(&rt, &words, Blank::new(1)).number())
+    }
 }

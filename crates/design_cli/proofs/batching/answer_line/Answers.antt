@@ -1,22 +1,38 @@
-use Rattle.std.proofs.Common.{Ok, Err, Some, refl, ap, sym, ◌∙◌}
+use Rattle.std.proofs.Common.{Ok, ap, arith, refl, sym, ◌∙◌}
 use Rattle.std.proofs.KnownBytes.{Appends-nil}
+use Rattle.catalogues.proofs.Left.{left_refl}
 use Rattle.design_reports.specs.Reports.{silent}
 use Rattle.design_reports.specs.declared.ending.Ending.TheVariants.{Refused}
-use Rattle.design_cli.specs.Batches.{line_report}
-use Rattle.design_cli.proofs.Batches.{answer_is, blank_is}
+use Rattle.design_cli.proofs.Batches.{blank_line, command_fault, command_line, refused_line}
 use Rattle.design_cli.proofs.batching.answer_line.Goals as goal
 
-pub returns-in-Err-clause-ends : goal.returns-in-Err-clause-ends
-returns-in-Err-clause-ends g c =
+pub returns-in-Err : goal.returns-in-Err
+returns-in-Err g c =
     let held = g.K.Sink.held c.args.out.now in
-    rw (answer_is c.args.line.now (Err c.in-Err.reason) (sym c.in-Err.is ∙ c.read_line.ensures.command)) (c.end_line.ensures.ends (silent (Refused c.in-Err.reason)) held (refl, Appends-nil held))
+    record {
+      ends = refused_line c.args.line.now c.in-Err.reason _ c.end_line.result held _ (sym c.in-Err.is ∙ c.read_line.ensures.command) (c.end_line.ensures.ends (silent (Refused c.in-Err.reason)) held (refl, Appends-nil held)) (λ entries told. c.end_line.ensures.leaves _ entries told);
+      cause = c.end_line.ensures.cause _ (record { later = omega arith; failed = λ e. cc });
+      offer = λ number e. let f = (c.end_line.ensures.stops number).0 e in cc;
+      left = left_refl _;
+    }
 
-pub returns-in-Ok-None-clause-ends : goal.returns-in-Ok-None-clause-ends
-returns-in-Ok-None-clause-ends g c =
-    rw (blank_is c.args.line.now (sym (c.in-Ok-None.is ∙ ap Ok c.in-Ok-None.field-0-is) ∙ c.read_line.ensures.command)) (Appends-nil (g.K.Sink.held c.args.out.now))
+pub returns-in-Ok-None : goal.returns-in-Ok-None
+returns-in-Ok-None g c = record {
+  ends = blank_line c.args.line.now _ (g.K.Sink.held c.args.out.now) (sym (c.in-Ok-None.is ∙ ap Ok c.in-Ok-None.field-0-is) ∙ c.read_line.ensures.command);
+  cause = record { later = omega arith; failed = λ e. cc };
+  offer = λ number e. cc;
+  left = left_refl _;
+}
 
-pub returns-in-Ok-Some-clause-ends : goal.returns-in-Ok-Some-clause-ends
-returns-in-Ok-Some-clause-ends g c =
+pub returns-in-Ok-Some : goal.returns-in-Ok-Some
+returns-in-Ok-Some g c =
     let command = c.in-Ok-Some.command in
-    rw (answer_is c.args.line.now (Ok (Some command)) (sym (c.in-Ok-Some.is ∙ ap Ok c.in-Ok-Some.field-0-is) ∙ c.read_line.ensures.command))
-    (c.end_line-in-Ok-Some.ensures.ends (line_report (Ok (Some command))) (g.K.Sink.held c.args.out.now) c.answer_unread-ending.ensures.ends)
+    let is = sym (c.in-Ok-Some.is ∙ ap Ok c.in-Ok-Some.field-0-is) ∙ c.read_line.ensures.command in
+    let ended = c.end_line-in-Ok-Some in
+    let answer = c.answer_unread-ending in
+    record {
+      ends = command_line c.args.line.now command is _ _ answer.result ended.result (g.K.Sink.held c.args.out.now) _ _ answer.ensures.ends ended.ensures.ends ended.ensures.leaves;
+      cause = ended.ensures.cause _ answer.ensures.cause;
+      offer = λ number e. command_fault c.args.line.now command is _ _ number (answer.ensures.offer number ((ended.ensures.stops number).0 e));
+      left = answer.ensures.left;
+    }

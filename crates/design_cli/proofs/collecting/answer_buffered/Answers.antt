@@ -1,7 +1,6 @@
-use Rattle.std.proofs.Common.{Some, subst}
+use Rattle.std.proofs.Common.{ap, subst}
 use Rattle.design_cli.proofs.Settled.{settled_ends, settled_fault}
 use Rattle.design_cli.specs.Report.{command_of}
-use Rattle.design_cli.specs.Runs.{Answers}
 use Rattle.design_io.specs.Buffers.{handed}
 use Rattle.design_reports.specs.Answers.{HasFault}
 use Rattle.design_cli.proofs.collecting.answer_buffered.Goals as goal
@@ -12,8 +11,8 @@ returns-clause-ends g c =
     let left = g.S.Source.left c.args.input.now in
     let after = g.S.Source.left c.answer-ending.new.input in
     let held = handed c.answer-ending.new.out in
-    rw (← c.requires) (settled_ends command left after c.answer-ending.result c.settled.result g.O.Origin.start (g.K.Sink.held c.flushed-end.result.1) held c.flushed-end.result.0
-    (subst (λ s. Answers command left after c.answer-ending.result (Some (handed s)) (Some held)) c.new-buffered.ensures c.answer-ending.ensures.ends) c.flushed-end.ensures.bytes c.settled.ensures.kept c.settled.ensures.failed)
+    rw (← c.requires.start) (settled_ends command left after _ _ c.answer-ending.result c.settled.result g.O.Origin.start (g.K.Sink.held c.flushed-end.result.1) _ held c.flushed-end.result.0
+    (ap handed c.new-buffered.ensures) c.answer-ending.ensures.ends c.flushed-end.ensures.bytes c.settled.ensures.kept c.settled.ensures.failed)
 
 pub returns-clause-cause : goal.returns-clause-cause
 returns-clause-cause g c =

@@ -6,7 +6,7 @@ use Rattle.design_cli.proofs.collecting.run_buffered.Goals as goal
 
 pub returns-clause-report : goal.returns-clause-report
 returns-clause-report g c =
-    rw c.status.ensures (run_ends (command_of c.args.words.now) (g.S.Source.left c.args.input.now) (g.S.Source.left c.answer_buffered-ending.new.input) c.answer_buffered-ending.result.0 (g.K.Sink.held c.args.out) (g.K.Sink.held c.answer_buffered-ending.result.1)
+    rw c.status.ensures (run_ends (command_of c.args.words.now) (g.S.Source.left c.args.input.now) (g.S.Source.left c.answer_buffered-ending.new.input) _ _ c.answer_buffered-ending.result.0 (g.K.Sink.held c.args.out) (g.K.Sink.held c.answer_buffered-ending.result.1)
     (λ line. Says line (g.E.Sink.held c.args.err.now) (g.E.Sink.held c.say.new.err) (g.E.Sink.faults c.args.err.now) (g.E.Sink.faults c.say.new.err)) c.answer_buffered-ending.ensures.ends
     (rw (c.bytes.ensures.bytes, c.message.ensures) at c.say.ensures))
 

@@ -1,4 +1,4 @@
-use Rattle.design_answers.proofs.tests.count.Given as goal
+use Rattle.design_answers.proofs.tests.count_with.Given as goal
 
 abbrev pub ghosts-count_counted : goal.ghosts-count_counted
 ghosts-count_counted a = record { name = a.blank.name; parts = a.blank.parts }
