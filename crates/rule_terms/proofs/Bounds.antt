@@ -1,5 +1,5 @@
 -- What it says of numbers that a question is in bounds.
-use Rattle.std.proofs.Common.{◌≡◌, ℕ, ◌*◌, ◌≤◌, Bool, true, false, ◌&&◌, arith, refl}
+use Rattle.std.proofs.Common.{◌≡◌, ℕ, ◌*◌, ◌≤◌, true, arith}
 use Rattle.std.proofs.lemmas.Bool.Decides.{nat_tests}
 use Rattle.design_base.specs.declared.limits.TheConstants.{COVER_MAX, GDD_K_MAX, PBD_S_MAX, POINTS_MAX, TD_K_MAX, TD_N_MAX}
 use Rattle.design_base.specs.declared.query.Query.TheVariants.{Bibd, Gdd, Pbd, Td}

@@ -5,6 +5,7 @@ mod bibd;
 mod curves;
 mod df;
 mod gdd;
+mod geometries;
 mod next;
 mod pbd;
 mod sizes;
