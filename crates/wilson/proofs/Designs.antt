@@ -18,23 +18,32 @@ use Rattle.wilson.specs.Holes.{first_apart, holed, holed_twice, renumbered_row_t
 use Rattle.wilson.specs.Truncations.{wilson_one_blocks, wilson_one_rows, wilson_two_blocks, wilson_two_rows}
 
 -- ---- the stated lists, wherever the construction has what it needs
-pub wilson_one_design : (k m t u : ℕ) (M A E U : List (List ℕ)) → CanTruncateOnce k m t u M A E U → IsTd (canonical (wilson_one_blocks k m t u M A E U)) k (m * t + u)
-wilson_one_design k m t u M A E U can =
-    td_of_oa k (m * t + u) (wilson_one_rows k m t u (rows_of_blocks t M) (rows_of_blocks m A) (rows_of_blocks (m + 1) E) (rows_of_blocks u U)) (omega (arith, can.some_kept))
-    (wilson_one_is_oa k m t u (rows_of_blocks t M) (rows_of_blocks m A) (rows_of_blocks (m + 1) E) (rows_of_blocks u U)
-    (oa_from_td (k + 1) t M (omega (arith, can.some_kept, can.kept)) can.master (omega (arith, can.two_groups))) (oa_from_td k m A can.one_symbol can.small can.two_groups)
-    (oa_from_td k (m + 1) E (omega arith) can.large can.two_groups) (oa_from_td k u U can.some_kept can.rest can.two_groups) can.one_symbol can.kept can.two_groups)
+module _ (k m t u : ℕ) (M A E U : List (List ℕ)) (can : CanTruncateOnce k m t u M A E U) where
+  pub wilson_one_array : IsOa (wilson_one_rows k m t u (rows_of_blocks t M) (rows_of_blocks m A) (rows_of_blocks (m + 1) E) (rows_of_blocks u U)) k (m * t + u)
+  wilson_one_array =
+      wilson_one_is_oa k m t u (rows_of_blocks t M) (rows_of_blocks m A) (rows_of_blocks (m + 1) E) (rows_of_blocks u U)
+      (oa_from_td (k + 1) t M (omega (arith, can.some_kept, can.kept)) can.master (omega (arith, can.two_groups))) (oa_from_td k m A can.one_symbol can.small can.two_groups)
+      (oa_from_td k (m + 1) E (omega arith) can.large can.two_groups) (oa_from_td k u U can.some_kept can.rest can.two_groups) can.one_symbol can.kept can.two_groups
 
-pub wilson_two_design : (k m t u w : ℕ) (M A E F U W : List (List ℕ)) → CanTruncateTwice k m t u w M A E F U W →
-    IsTd (canonical (wilson_two_blocks k m t u w M A E F U W)) k (m * t + u + w)
-wilson_two_design k m t u w M A E F U W can =
-    td_of_oa k (m * t + u + w)
-    (wilson_two_rows k m t u w (rows_of_blocks t M) (rows_of_blocks m A) (rows_of_blocks (m + 1) E) (rows_of_blocks (m + 2) F) (rows_of_blocks u U) (rows_of_blocks w W)) (omega (arith, can.first_some_kept))
-    (wilson_two_is_oa k m t u w (rows_of_blocks t M) (rows_of_blocks m A) (rows_of_blocks (m + 1) E) (rows_of_blocks (m + 2) F) (rows_of_blocks u U) (rows_of_blocks w W)
-    can.two_groups can.one_symbol can.few_groups can.first_kept can.second_kept
-    (oa_from_td (k + 2) t M (omega (arith, can.first_some_kept, can.first_kept)) can.master (omega (arith, can.two_groups))) (oa_from_td k m A can.one_symbol can.small can.two_groups)
-    (oa_from_td k (m + 1) E (omega arith) can.large can.two_groups) (oa_from_td k (m + 2) F (omega arith) can.larger can.two_groups)
-    (oa_from_td k u U can.first_some_kept can.first_rest can.two_groups) (oa_from_td k w W can.second_some_kept can.second_rest can.two_groups))
+  pub wilson_one_design : IsTd (canonical (wilson_one_blocks k m t u M A E U)) k (m * t + u)
+  wilson_one_design =
+      td_of_oa k (m * t + u) (wilson_one_rows k m t u (rows_of_blocks t M) (rows_of_blocks m A) (rows_of_blocks (m + 1) E) (rows_of_blocks u U)) (omega (arith, can.some_kept)) wilson_one_array
+
+module _ (k m t u w : ℕ) (M A E F U W : List (List ℕ)) (can : CanTruncateTwice k m t u w M A E F U W) where
+  pub wilson_two_array :
+      IsOa (wilson_two_rows k m t u w (rows_of_blocks t M) (rows_of_blocks m A) (rows_of_blocks (m + 1) E) (rows_of_blocks (m + 2) F) (rows_of_blocks u U) (rows_of_blocks w W)) k (m * t + u + w)
+  wilson_two_array =
+      wilson_two_is_oa k m t u w (rows_of_blocks t M) (rows_of_blocks m A) (rows_of_blocks (m + 1) E) (rows_of_blocks (m + 2) F) (rows_of_blocks u U) (rows_of_blocks w W)
+      can.two_groups can.one_symbol can.few_groups can.first_kept can.second_kept
+      (oa_from_td (k + 2) t M (omega (arith, can.first_some_kept, can.first_kept)) can.master (omega (arith, can.two_groups))) (oa_from_td k m A can.one_symbol can.small can.two_groups)
+      (oa_from_td k (m + 1) E (omega arith) can.large can.two_groups) (oa_from_td k (m + 2) F (omega arith) can.larger can.two_groups)
+      (oa_from_td k u U can.first_some_kept can.first_rest can.two_groups) (oa_from_td k w W can.second_some_kept can.second_rest can.two_groups)
+
+  pub wilson_two_design : IsTd (canonical (wilson_two_blocks k m t u w M A E F U W)) k (m * t + u + w)
+  wilson_two_design =
+      td_of_oa k (m * t + u + w)
+      (wilson_two_rows k m t u w (rows_of_blocks t M) (rows_of_blocks m A) (rows_of_blocks (m + 1) E) (rows_of_blocks (m + 2) F) (rows_of_blocks u U) (rows_of_blocks w W))
+      (omega (arith, can.first_some_kept)) wilson_two_array
 
 -- the orders of the ingredients are within that of the design
 pub group_within : (m t : ℕ) → 1 ≤ m → t ≤ m * t

@@ -8,7 +8,7 @@ use Rattle.transversal.specs.Constructions.{raised}
 use Rattle.wilson.proofs.FilledArray.{IsEnding, AreInfinite, IsPiece, filled_is_oa}
 use Rattle.wilson.proofs.HoledArray.{array_is_holed, holed_is}
 use Rattle.wilson.specs.Holes.{holed}
-use Rattle.wilson.specs.Truncations.{fill_one, filled_rows, wilson_one_rows}
+use Rattle.wilson.specs.Truncations.{fill_one, filled_rows, one_truncated_rows, wilson_one_rows}
 
 -- the one infinite point
 pub only_end : (m p s : ℕ) → m ≤ s → s < m + 1 → get_or (p ∷ []) (s - m) 0 ≡ p
@@ -67,5 +67,5 @@ module _ (k m t u : ℕ) (M A E U : List (List ℕ)) (master : IsOa M (k + 1) t)
   piece_is a = cond_both (nat_lt (get_or a k 0) u) _ _ (IsPiece k (k + 1) m (λ c. u) (λ c v. m * t + v) a) (λ e. kept a (ltb-true (get_or a k 0) u e)) (λ e. dropped a (ltb-false (get_or a k 0) u e))
 
   pub wilson_one_is_oa : 2 ≤ k → IsOa (wilson_one_rows k m t u M A E U) k (m * t + u)
-  unfolding wilson_one_rows
+  unfolding one_truncated_rows
   wilson_one_is_oa two = filled_is_oa k (k + 1) m t (m * t + u) (λ c. u) (λ c v. m * t + v) pos infinite_is M _ (fill_one k m t u A (holed k m E)) master (λ a v. piece_is a) ending_is two

@@ -8,7 +8,7 @@ use Rattle.design_base.specs.Canonical.{canonical, lex_le}
 use Rattle.transversal.specs.Constructions.{raised}
 use Rattle.wilson.specs.Disjoint.{are_disjoint, disjoint_from_first}
 use Rattle.wilson.specs.Holes.{agreements, first_apart, holed, holed_twice, renumbered, renumbered_row, renumbered_row_twice, renumbered_twice}
-use Rattle.wilson.specs.Truncations.{fill_one, fill_two, filled, filled_row, filled_rows, wilson_one_blocks, wilson_one_rows, wilson_two_blocks, wilson_two_rows}
+use Rattle.wilson.specs.Truncations.{fill_one, fill_two, filled, filled_row, filled_rows, one_truncated_rows, two_truncated_rows, wilson_one_blocks, wilson_two_blocks}
 
 -- designs of one, two, three and four points in a group
 abbrev of_one : List (List ℕ)
@@ -43,7 +43,7 @@ abbrev master_of_three : List (List ℕ)
 master_of_three = (0 ∷ 3 ∷ 6 ∷ 9 ∷ []) ∷ (0 ∷ 4 ∷ 7 ∷ 10 ∷ []) ∷ (0 ∷ 5 ∷ 8 ∷ 11 ∷ []) ∷ (1 ∷ 3 ∷ 7 ∷ 11 ∷ []) ∷ (1 ∷ 4 ∷ 8 ∷ 9 ∷ []) ∷ (1 ∷ 5 ∷ 6 ∷ 10 ∷ []) ∷ (2 ∷ 3 ∷ 8 ∷ 10 ∷ []) ∷ (2 ∷ 4 ∷ 6 ∷ 11 ∷ []) ∷ (2 ∷ 5 ∷ 7 ∷ 9 ∷ []) ∷ []
 
 seven_points : canonical (wilson_one_blocks 3 2 3 1 master_of_three of_two of_three of_one) ≡ (0 ∷ 7 ∷ 15 ∷ []) ∷ (0 ∷ 8 ∷ 20 ∷ []) ∷ (0 ∷ 9 ∷ 16 ∷ []) ∷ (0 ∷ 10 ∷ 17 ∷ []) ∷ (0 ∷ 11 ∷ 18 ∷ []) ∷ (0 ∷ 12 ∷ 19 ∷ []) ∷ (0 ∷ 13 ∷ 14 ∷ []) ∷ (1 ∷ 7 ∷ 20 ∷ []) ∷ (1 ∷ 8 ∷ 14 ∷ []) ∷ (1 ∷ 9 ∷ 17 ∷ []) ∷ (1 ∷ 10 ∷ 16 ∷ []) ∷ (1 ∷ 11 ∷ 19 ∷ []) ∷ (1 ∷ 12 ∷ 18 ∷ []) ∷ (1 ∷ 13 ∷ 15 ∷ []) ∷ (2 ∷ 7 ∷ 16 ∷ []) ∷ (2 ∷ 8 ∷ 17 ∷ []) ∷ (2 ∷ 9 ∷ 19 ∷ []) ∷ (2 ∷ 10 ∷ 20 ∷ []) ∷ (2 ∷ 11 ∷ 14 ∷ []) ∷ (2 ∷ 12 ∷ 15 ∷ []) ∷ (2 ∷ 13 ∷ 18 ∷ []) ∷ (3 ∷ 7 ∷ 17 ∷ []) ∷ (3 ∷ 8 ∷ 16 ∷ []) ∷ (3 ∷ 9 ∷ 20 ∷ []) ∷ (3 ∷ 10 ∷ 18 ∷ []) ∷ (3 ∷ 11 ∷ 15 ∷ []) ∷ (3 ∷ 12 ∷ 14 ∷ []) ∷ (3 ∷ 13 ∷ 19 ∷ []) ∷ (4 ∷ 7 ∷ 18 ∷ []) ∷ (4 ∷ 8 ∷ 19 ∷ []) ∷ (4 ∷ 9 ∷ 14 ∷ []) ∷ (4 ∷ 10 ∷ 15 ∷ []) ∷ (4 ∷ 11 ∷ 17 ∷ []) ∷ (4 ∷ 12 ∷ 20 ∷ []) ∷ (4 ∷ 13 ∷ 16 ∷ []) ∷ (5 ∷ 7 ∷ 19 ∷ []) ∷ (5 ∷ 8 ∷ 18 ∷ []) ∷ (5 ∷ 9 ∷ 15 ∷ []) ∷ (5 ∷ 10 ∷ 14 ∷ []) ∷ (5 ∷ 11 ∷ 20 ∷ []) ∷ (5 ∷ 12 ∷ 16 ∷ []) ∷ (5 ∷ 13 ∷ 17 ∷ []) ∷ (6 ∷ 7 ∷ 14 ∷ []) ∷ (6 ∷ 8 ∷ 15 ∷ []) ∷ (6 ∷ 9 ∷ 18 ∷ []) ∷ (6 ∷ 10 ∷ 19 ∷ []) ∷ (6 ∷ 11 ∷ 16 ∷ []) ∷ (6 ∷ 12 ∷ 17 ∷ []) ∷ (6 ∷ 13 ∷ 20 ∷ []) ∷ []
-unfolding canonical sort_by insert_by lex_le blocks_of_rows rows_of_blocks row_block place join_below one raised holed renumbered_row renumbered filled filled_row filled_rows fill_one wilson_one_rows
+unfolding canonical sort_by insert_by lex_le blocks_of_rows rows_of_blocks row_block place join_below one raised holed renumbered_row renumbered filled filled_row filled_rows fill_one one_truncated_rows
 seven_points = refl
 
 abbrev master_of_four : List (List ℕ)
@@ -51,9 +51,9 @@ master_of_four = (0 ∷ 4 ∷ 8 ∷ 12 ∷ 16 ∷ []) ∷ (0 ∷ 5 ∷ 9 ∷ 13 
 
 -- the first of the hundred blocks
 ten_points : take 10 (canonical (wilson_two_blocks 3 2 4 1 1 master_of_four of_two of_three of_four of_one of_one)) ≡ (0 ∷ 10 ∷ 29 ∷ []) ∷ (0 ∷ 11 ∷ 20 ∷ []) ∷ (0 ∷ 12 ∷ 22 ∷ []) ∷ (0 ∷ 13 ∷ 23 ∷ []) ∷ (0 ∷ 14 ∷ 24 ∷ []) ∷ (0 ∷ 15 ∷ 25 ∷ []) ∷ (0 ∷ 16 ∷ 26 ∷ []) ∷ (0 ∷ 17 ∷ 27 ∷ []) ∷ (0 ∷ 18 ∷ 21 ∷ []) ∷ (0 ∷ 19 ∷ 28 ∷ []) ∷ []
-unfolding canonical sort_by insert_by lex_le blocks_of_rows rows_of_blocks row_block place join_below sum_below one raised holed renumbered_row renumbered holed_twice first_apart agreements renumbered_row_twice renumbered_twice filled filled_row filled_rows fill_two wilson_two_rows
+unfolding canonical sort_by insert_by lex_le blocks_of_rows rows_of_blocks row_block place join_below sum_below one raised holed renumbered_row renumbered holed_twice first_apart agreements renumbered_row_twice renumbered_twice filled filled_row filled_rows fill_two two_truncated_rows
 ten_points = refl
 
 ten_points_count : length (wilson_two_blocks 3 2 4 1 1 master_of_four of_two of_three of_four of_one of_one) ≡ 100
-unfolding blocks_of_rows rows_of_blocks row_block place join_below sum_below one raised holed renumbered_row renumbered holed_twice first_apart agreements renumbered_row_twice renumbered_twice filled filled_row filled_rows fill_two wilson_two_rows
+unfolding blocks_of_rows rows_of_blocks row_block place join_below sum_below one raised holed renumbered_row renumbered holed_twice first_apart agreements renumbered_row_twice renumbered_twice filled filled_row filled_rows fill_two two_truncated_rows
 ten_points_count = refl

@@ -10,8 +10,8 @@ use Rattle.counting.specs.Sums.{join_below}
 use Rattle.design_base.specs.Arrays.{IsRow, blocks_of_rows}
 use Rattle.incidence.proofs.RowsAndBlocks.{blocks_of_no_rows, blocks_of_rows_append, blocks_of_rows_next, front_next}
 use Rattle.transversal.specs.Constructions.{raised}
-use Rattle.wilson.specs.Holes.{holed, holed_twice, renumbered, renumbered_row, renumbered_row_twice, renumbered_twice}
-use Rattle.wilson.specs.Truncations.{fill_one, fill_two, filled, filled_row, filled_rows, wilson_one_rows, wilson_two_rows}
+use Rattle.wilson.specs.Holes.{holed, renumbered, renumbered_row, renumbered_row_twice, renumbered_twice}
+use Rattle.wilson.specs.Truncations.{fill_one, fill_two, filled, filled_row, filled_rows, one_truncated_rows, two_truncated_rows}
 
 -- ---- entries written one after another
 
@@ -193,15 +193,15 @@ pub fill_two_none : (k m t u w : ℕ) (A E F : List (List ℕ)) (a : List ℕ) �
 unfolding fill_two
 fill_two_none k m t u w A E F a l h = sym (cond_above (get_or a (k + 1) 0) w _ _ _ h refl ∙ cond_above (get_or a k 0) u _ _ _ l refl)
 
-pub blocks_of_wilson_one : (k n m t u : ℕ) (M A E U : List (List ℕ)) →
-    blocks_of_rows k n (wilson_one_rows k m t u M A E U) ≡ blocks_of_rows k n (flat_map (fill_one k m t u A (holed k m E)) M) ++ blocks_of_rows k n (raised (m * t) U)
-unfolding wilson_one_rows
-blocks_of_wilson_one k n m t u M A E U = blocks_of_rows_append k n (flat_map (fill_one k m t u A (holed k m E)) M) (raised (m * t) U)
+pub blocks_of_one_truncated : (k n m t u : ℕ) (M A H U : List (List ℕ)) →
+    blocks_of_rows k n (one_truncated_rows k m t u M A H U) ≡ blocks_of_rows k n (flat_map (fill_one k m t u A H) M) ++ blocks_of_rows k n (raised (m * t) U)
+unfolding one_truncated_rows
+blocks_of_one_truncated k n m t u M A H U = blocks_of_rows_append k n (flat_map (fill_one k m t u A H) M) (raised (m * t) U)
 
-pub blocks_of_wilson_two : (k n m t u w : ℕ) (M A E F U W : List (List ℕ)) → blocks_of_rows k n (wilson_two_rows k m t u w M A E F U W)
-    ≡ blocks_of_rows k n (flat_map (fill_two k m t u w A (holed k m E) (holed_twice k m F)) M) ++ (blocks_of_rows k n (raised (m * t) U) ++ blocks_of_rows k n (raised (m * t + u) W))
-unfolding wilson_two_rows
-blocks_of_wilson_two k n m t u w M A E F U W = blocks_of_rows_append k n (flat_map (fill_two k m t u w A (holed k m E) (holed_twice k m F)) M) (raised (m * t) U ++ raised (m * t + u) W)
-    ∙ ap (λ xs. blocks_of_rows k n (flat_map (fill_two k m t u w A (holed k m E) (holed_twice k m F)) M) ++ xs) (blocks_of_rows_append k n (raised (m * t) U) (raised (m * t + u) W))
+pub blocks_of_two_truncated : (k n m t u w : ℕ) (M A H G U W : List (List ℕ)) → blocks_of_rows k n (two_truncated_rows k m t u w M A H G U W)
+    ≡ blocks_of_rows k n (flat_map (fill_two k m t u w A H G) M) ++ (blocks_of_rows k n (raised (m * t) U) ++ blocks_of_rows k n (raised (m * t + u) W))
+unfolding two_truncated_rows
+blocks_of_two_truncated k n m t u w M A H G U W = blocks_of_rows_append k n (flat_map (fill_two k m t u w A H G) M) (raised (m * t) U ++ raised (m * t + u) W)
+    ∙ ap (λ xs. blocks_of_rows k n (flat_map (fill_two k m t u w A H G) M) ++ xs) (blocks_of_rows_append k n (raised (m * t) U) (raised (m * t + u) W))
 
-pub ruleset steps = (append-nil, append_assoc, filled_rows_none, blocks_of_no_rows, blocks_of_filled_next, blocks_of_fills_next, blocks_of_wilson_one, blocks_of_wilson_two)
+pub ruleset steps = (append-nil, append_assoc, filled_rows_none, blocks_of_no_rows, blocks_of_filled_next, blocks_of_fills_next, blocks_of_one_truncated, blocks_of_two_truncated)

@@ -12,7 +12,7 @@ use Rattle.wilson.proofs.FilledArray.{IsEnding, AreInfinite, IsPiece, filled_is_
 use Rattle.wilson.proofs.HoledArray.{array_is_holed, holed_is, holed_twice_is}
 use Rattle.wilson.proofs.OneGroup.{only_end}
 use Rattle.wilson.specs.Holes.{holed, holed_twice}
-use Rattle.wilson.specs.Truncations.{fill_two, filled_rows, wilson_two_rows}
+use Rattle.wilson.specs.Truncations.{fill_two, filled_rows, two_truncated_rows, wilson_two_rows}
 
 -- the sizes of the truncated groups k and k + 1, and their infinite points
 kept : ℕ → ℕ → ℕ → ℕ → ℕ
@@ -206,7 +206,7 @@ module _ (k m t u w : ℕ) (U W : List (List ℕ)) (first : IsOa U k u) (second 
 
 pub wilson_two_is_oa : (k m t u w : ℕ) (M A E F U W : List (List ℕ)) → 2 ≤ k → 0 < m → k ≤ m + 2 → u ≤ t → w ≤ t →
     IsOa M (k + 2) t → IsOa A k m → IsOa E k (m + 1) → IsOa F k (m + 2) → IsOa U k u → IsOa W k w → IsOa (wilson_two_rows k m t u w M A E F U W) k (m * t + u + w)
-unfolding wilson_two_rows
+unfolding two_truncated_rows
 wilson_two_is_oa k m t u w M A E F U W two pos few fits fit master small large larger first second =
     filled_is_oa k (k + 2) m t (m * t + u + w) (kept k u w) (far_point k (m * t) u) pos (infinite_is k m t u w fits fit) M _ (fill_two k m t u w A (holed k m E) (holed_twice k m F)) master
     (λ a v. piece_is k m t u w A E F small large larger two few a) (ending_is k m t u w U W first second) two

@@ -27,9 +27,13 @@ fill_one k m t u A E a =
     let y : ℕ = slice_index a k in
     if nat_lt y u then filled_rows k m ((m * t + y) ∷ []) a E else filled_rows k m [] a A
 
--- the rows in place of each row of the master M, and the rows U on the infinite points
-unfoldable pub wilson_one_rows : ℕ → ℕ → ℕ → ℕ → List (List ℕ) → List (List ℕ) → List (List ℕ) → List (List ℕ) → List (List ℕ)
-wilson_one_rows k m t u M A E U = flat_map (fill_one k m t u A (holed k m E)) M ++ raised (m * t) U
+-- the rows in place of each row of the master M, by A and H, an array without a row, and the rows U on the infinite points
+unfoldable pub one_truncated_rows : ℕ → ℕ → ℕ → ℕ → List (List ℕ) → List (List ℕ) → List (List ℕ) → List (List ℕ) → List (List ℕ)
+one_truncated_rows k m t u M A H U = flat_map (fill_one k m t u A H) M ++ raised (m * t) U
+
+-- the same, by the arrays A and E
+abbrev pub wilson_one_rows : ℕ → ℕ → ℕ → ℕ → List (List ℕ) → List (List ℕ) → List (List ℕ) → List (List ℕ) → List (List ℕ)
+wilson_one_rows k m t u M A E U = one_truncated_rows k m t u M A (holed k m E) U
 
 -- from a master with k + 1 groups of t points, and designs with k groups of m, m + 1 and u points
 abbrev pub wilson_one_blocks : ℕ → ℕ → ℕ → ℕ → List (List ℕ) → List (List ℕ) → List (List ℕ) → List (List ℕ) → List (List ℕ)
@@ -49,10 +53,14 @@ fill_two k m t u w A E F a =
     then (if nat_lt z w then filled_rows k m ((m * t + y) ∷ (m * t + u + z) ∷ []) a F else filled_rows k m ((m * t + y) ∷ []) a E)
     else (if nat_lt z w then filled_rows k m ((m * t + u + z) ∷ []) a E else filled_rows k m [] a A)
 
--- the rows in place of each row of the master M, and the rows U and W on the infinite points of each truncated group
-unfoldable pub wilson_two_rows : ℕ → ℕ → ℕ → ℕ → ℕ → List (List ℕ) → List (List ℕ) → List (List ℕ) → List (List ℕ) → List (List ℕ) → List (List ℕ) → List (List ℕ)
-wilson_two_rows k m t u w M A E F U W =
-    flat_map (fill_two k m t u w A (holed k m E) (holed_twice k m F)) M ++ (raised (m * t) U ++ raised (m * t + u) W)
+-- the rows in place of each row of the master M, by A, by H, an array without a row, and by G, an array without two rows,
+-- and the rows U and W on the infinite points of each truncated group
+unfoldable pub two_truncated_rows : ℕ → ℕ → ℕ → ℕ → ℕ → List (List ℕ) → List (List ℕ) → List (List ℕ) → List (List ℕ) → List (List ℕ) → List (List ℕ) → List (List ℕ)
+two_truncated_rows k m t u w M A H G U W = flat_map (fill_two k m t u w A H G) M ++ (raised (m * t) U ++ raised (m * t + u) W)
+
+-- the same, by the arrays A, E and F
+abbrev pub wilson_two_rows : ℕ → ℕ → ℕ → ℕ → ℕ → List (List ℕ) → List (List ℕ) → List (List ℕ) → List (List ℕ) → List (List ℕ) → List (List ℕ) → List (List ℕ)
+wilson_two_rows k m t u w M A E F U W = two_truncated_rows k m t u w M A (holed k m E) (holed_twice k m F) U W
 
 -- from a master with k + 2 groups of t points, and designs with k groups of m, m + 1, m + 2, u and w points
 abbrev pub wilson_two_blocks : ℕ → ℕ → ℕ → ℕ → ℕ → List (List ℕ) → List (List ℕ) → List (List ℕ) → List (List ℕ) → List (List ℕ) → List (List ℕ) → List (List ℕ)

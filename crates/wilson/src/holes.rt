@@ -1,11 +1,13 @@
 // Orthogonal arrays without one row or two rows.
 ghost use Rattle.std.specs.Prelude.{◌≡◌, ◌≢◌, ◌+◌, ◌*◌, ◌<◌, ◌≤◌, ◌++◌, ℕ, [], ◌∷◌, All, IfOk, OnOk, drop, length, map, remove, slice_index, slice_index_or};
-ghost use Rattle.design_base.specs.Arrays.{IsOa, IsRow};
+ghost use Rattle.design_base.specs.Arrays.{IsOa, IsRow, rows_of_blocks};
+ghost use Rattle.design_base.specs.Blocks.{IsTd};
 ghost use Rattle.incidence.specs.Packed.{size_of};
 ghost use Rattle.wilson.specs.Holes.{first_apart, holed as holed_array, holed_twice as array_holed_twice, renumbered as renumbered_symbol, renumbered_row, renumbered_row_twice, renumbered_twice as symbol_renumbered_twice};
 
+use crate::disjoint::disjoint_from_first;
 use design_base::{Memory, PACKED_MAX, TD_K_MAX, TD_N_MAX};
-use incidence::Rows;
+use incidence::{Rows, array_of_td};
 use std::alloc::Global;
 
 // `f` becomes `m`, and the other symbols up to `m` become 0 to `m` - 1 in ascending order.
@@ -41,7 +43,7 @@ fn push_renumbered(
 
 // The rows of an array of order `m + 1` without the first one, whose symbols become `m`.
 #[tactic(auto, using(crate::proofs::Steps::holed_none, crate::proofs::Steps::holed_all))]
-pub fn holed(alloc: Global, k: u16, m: u16, array: &Rows) -> Result<Rows, Memory>
+fn holed(alloc: Global, k: u16, m: u16, array: &Rows) -> Result<Rows, Memory>
     requires groups { k ≤ TD_K_MAX }
     requires points { m + 1 ≤ TD_N_MAX }
     requires array { IsOa array.now k (m + 1) }
@@ -53,6 +55,20 @@ pub fn holed(alloc: Global, k: u16, m: u16, array: &Rows) -> Result<Rows, Memory
     for i in 1..array.len() {
         push_renumbered(&mut rows, k, m, array.row(0), array.row(i))?;
     }
+    Ok(rows)
+}
+
+// The array of a transversal design with groups of `m + 1` points, without its first row, whose symbols become `m`.
+pub fn holed_of_td(alloc: Global, k: u16, m: u16, td: &Rows) -> Result<Rows, Memory>
+    requires two_groups { 2 ≤ k }
+    requires groups { k ≤ TD_K_MAX }
+    requires points { m + 1 ≤ TD_N_MAX }
+    requires design { IsTd td.now k (m + 1) }
+    ensures without { IfOk result (λ rows. rows ≡ holed_array k m (rows_of_blocks (m + 1) td.now)) }
+    ensures rows { IfOk result (λ rows. All (IsRow k (m + 1)) rows) }
+{
+    let array = array_of_td(alloc, k, m + 1, td)?;
+    let rows = holed(alloc, k, m, &array)?;
     Ok(rows)
 }
 
@@ -125,7 +141,7 @@ fn without_two(alloc: Global, k: u16, m: u16, e: usize, array: &Rows) -> Result<
 
 // The rows of an array of order `m + 2` without the first one, whose symbols become `m`, and without the first one that
 // differs from it in every column, whose symbols become `m + 1`. The place of the latter is `e`.
-pub fn holed_twice(alloc: Global, k: u16, m: u16, e: usize, array: &Rows) -> Result<Rows, Memory>
+fn holed_twice(alloc: Global, k: u16, m: u16, e: usize, array: &Rows) -> Result<Rows, Memory>
     requires two_groups { 2 ≤ k }
     requires groups { k ≤ TD_K_MAX }
     requires few_groups { k ≤ m + 2 }
@@ -136,5 +152,22 @@ pub fn holed_twice(alloc: Global, k: u16, m: u16, e: usize, array: &Rows) -> Res
     ensures rows { IfOk result (λ rows. All (IsRow k (m + 2)) rows) }
 {
     let rows = without_two(alloc, k, m, e, array)?;
+    Ok(rows)
+}
+
+// The array of a transversal design with groups of `m + 2` points, without its first row, whose symbols become `m`, and
+// without the first one that differs from it in every column, whose symbols become `m + 1`.
+pub fn holed_twice_of_td(alloc: Global, k: u16, m: u16, td: &Rows) -> Result<Rows, Memory>
+    requires two_groups { 2 ≤ k }
+    requires groups { k ≤ TD_K_MAX }
+    requires few_groups { k ≤ m + 2 }
+    requires points { m + 2 ≤ TD_N_MAX }
+    requires design { IsTd td.now k (m + 2) }
+    ensures without { IfOk result (λ rows. rows ≡ array_holed_twice k m (rows_of_blocks (m + 2) td.now)) }
+    ensures rows { IfOk result (λ rows. All (IsRow k (m + 2)) rows) }
+{
+    let apart = disjoint_from_first(td).unwrap();
+    let array = array_of_td(alloc, k, m + 2, td)?;
+    let rows = holed_twice(alloc, k, m, apart, &array)?;
     Ok(rows)
 }

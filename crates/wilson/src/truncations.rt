@@ -1,17 +1,77 @@
 // Wilson's designs.
-ghost use Rattle.std.specs.Prelude.{◌≡◌, ◌+◌, ◌*◌, IfOk};
+ghost use Rattle.std.specs.Prelude.{◌≡◌, ◌+◌, ◌*◌, ◌<◌, ◌≤◌, ◌++◌, All, IfOk, OnOk, length};
+ghost use Rattle.design_base.specs.Arrays.{IsRow, blocks_of_rows, rows_of_blocks};
 ghost use Rattle.design_base.specs.Blocks.{IsTd};
 ghost use Rattle.design_base.specs.Canonical.{canonical};
+ghost use Rattle.incidence.specs.Packed.{size_of};
+ghost use Rattle.transversal.specs.Constructions.{raised};
 ghost use Rattle.wilson.specs.Conditions.{CanTruncateOnce, CanTruncateTwice};
-ghost use Rattle.wilson.specs.Truncations.{wilson_one_blocks, wilson_two_blocks};
+ghost use Rattle.wilson.specs.Truncations.{one_truncated_rows, two_truncated_rows, wilson_one_blocks, wilson_two_blocks};
 
-use crate::disjoint::disjoint_from_first;
 use crate::filling::{push_fills_one, push_fills_two};
-use crate::holes::{holed, holed_twice};
-use design_base::Memory;
+use crate::holes::{holed_of_td, holed_twice_of_td};
+use design_base::{Memory, PACKED_MAX, TD_K_MAX, TD_N_MAX};
 use incidence::{Rows, array_of_td};
 use std::alloc::Global;
 use transversal::{push_raised, with_room};
+
+// Appends the blocks of the rows of a transversal design with `k` groups of `h` points, with `c` added to each symbol.
+fn push_raised_td(
+    alloc: Global,
+    rows: &mut Rows,
+    k: u16,
+    n: u16,
+    c: u16,
+    h: u16,
+    td: &Rows,
+) -> Result<(), Memory>
+    requires two_groups { 2 ≤ k }
+    requires groups { k ≤ TD_K_MAX }
+    requires points { n ≤ TD_N_MAX }
+    requires one_point { 1 ≤ h }
+    requires raised_points { c + h ≤ n }
+    requires design { IsTd td.now k h }
+    requires room { size_of rows.old + (k + 1) * length (rows_of_blocks h td.now) < PACKED_MAX }
+    ensures { OnOk result (rows.new ≡ rows.old ++ blocks_of_rows k n (raised c (rows_of_blocks h td.now))) }
+{
+    let array = array_of_td(alloc, k, h, td)?;
+    push_raised(rows, k, n, c, h, &array)?;
+    Ok(())
+}
+
+// The blocks of the rows in place of each row of the design `master` and of the rows of the design `rest` on the infinite
+// points, in canonical form. `small` is an array, and `large` an array without a row.
+fn assemble_one(
+    alloc: Global,
+    k: u16,
+    m: u16,
+    t: u16,
+    u: u16,
+    master: &Rows,
+    small: &Rows,
+    large: &Rows,
+    rest: &Rows,
+) -> Result<Rows, Memory>
+    requires two_groups { 2 ≤ k }
+    requires groups { k + 1 ≤ TD_K_MAX }
+    requires some_kept { 1 ≤ u }
+    requires kept { u ≤ t }
+    requires points { m * t + u ≤ TD_N_MAX }
+    requires master { IsTd master.now (k + 1) t }
+    requires small { All (IsRow k m) small.now }
+    requires large { All (IsRow k (m + 1)) large.now }
+    requires rest { IsTd rest.now k u }
+    requires room { (k + 1) * length (one_truncated_rows k m t u (rows_of_blocks t master.now) small.now large.now (rows_of_blocks u rest.now)) < PACKED_MAX }
+    ensures { IfOk result (λ rows. rows ≡ canonical (blocks_of_rows k (m * t + u) (one_truncated_rows k m t u (rows_of_blocks t master.now) small.now large.now (rows_of_blocks u rest.now)))) }
+{
+    let n = m * t + u;
+    let master = array_of_td(alloc, k + 1, t, master)?;
+    let mut rows = with_room(alloc, k, n)?;
+    push_fills_one(&mut rows, k, m, t, u, small, large, &master)?;
+    push_raised_td(alloc, &mut rows, k, n, m * t, u, rest)?;
+    let blocks = rows.canonical()?;
+    Ok(blocks)
+}
 
 /// The transversal design of `k` groups of `m * t + u` points, made from a master of `k + 1` groups of `t` points, whose last
 /// group is truncated to `u` points, and from designs of `k` groups of `m`, `m + 1` and `u` points: `small`, `large` and
@@ -35,15 +95,49 @@ pub fn truncate_one(
     ensures blocks { IfOk result (λ rows. rows ≡ canonical (wilson_one_blocks k m t u master.now small.now large.now rest.now)) }
     ensures design { IfOk result (λ rows. IsTd rows k (m * t + u)) }
 {
-    let n = m * t + u;
-    let master = array_of_td(alloc, k + 1, t, master)?;
     let small = array_of_td(alloc, k, m, small)?;
-    let large = array_of_td(alloc, k, m + 1, large)?;
-    let holed_large = holed(alloc, k, m, &large)?;
-    let rest = array_of_td(alloc, k, u, rest)?;
+    let large = holed_of_td(alloc, k, m, large)?;
+    let blocks = assemble_one(alloc, k, m, t, u, master, &small, &large, rest)?;
+    Ok(blocks)
+}
+
+// The blocks of the rows in place of each row of the design `master` and of the rows of the designs `first` and `second` on
+// the infinite points, in canonical form. `small` is an array, `large` an array without a row, and `larger` one without two.
+fn assemble_two(
+    alloc: Global,
+    k: u16,
+    m: u16,
+    t: u16,
+    u: u16,
+    w: u16,
+    master: &Rows,
+    small: &Rows,
+    large: &Rows,
+    larger: &Rows,
+    first: &Rows,
+    second: &Rows,
+) -> Result<Rows, Memory>
+    requires two_groups { 2 ≤ k }
+    requires groups { k + 2 ≤ TD_K_MAX }
+    requires first_some_kept { 1 ≤ u }
+    requires first_kept { u ≤ t }
+    requires second_some_kept { 1 ≤ w }
+    requires points { m * t + u + w ≤ TD_N_MAX }
+    requires master { IsTd master.now (k + 2) t }
+    requires small { All (IsRow k m) small.now }
+    requires large { All (IsRow k (m + 1)) large.now }
+    requires larger { All (IsRow k (m + 2)) larger.now }
+    requires first { IsTd first.now k u }
+    requires second { IsTd second.now k w }
+    requires room { (k + 1) * length (two_truncated_rows k m t u w (rows_of_blocks t master.now) small.now large.now larger.now (rows_of_blocks u first.now) (rows_of_blocks w second.now)) < PACKED_MAX }
+    ensures { IfOk result (λ rows. rows ≡ canonical (blocks_of_rows k (m * t + u + w) (two_truncated_rows k m t u w (rows_of_blocks t master.now) small.now large.now larger.now (rows_of_blocks u first.now) (rows_of_blocks w second.now)))) }
+{
+    let n = m * t + u + w;
+    let master = array_of_td(alloc, k + 2, t, master)?;
     let mut rows = with_room(alloc, k, n)?;
-    push_fills_one(&mut rows, k, m, t, u, &small, &holed_large, &master)?;
-    push_raised(&mut rows, k, n, m * t, u, &rest)?;
+    push_fills_two(&mut rows, k, m, t, u, w, small, large, larger, &master)?;
+    push_raised_td(alloc, &mut rows, k, n, m * t, u, first)?;
+    push_raised_td(alloc, &mut rows, k, n, m * t + u, w, second)?;
     let blocks = rows.canonical()?;
     Ok(blocks)
 }
@@ -73,31 +167,22 @@ pub fn truncate_two(
     ensures blocks { IfOk result (λ rows. rows ≡ canonical (wilson_two_blocks k m t u w master.now small.now large.now larger.now first_rest.now second_rest.now)) }
     ensures design { IfOk result (λ rows. IsTd rows k (m * t + u + w)) }
 {
-    let n = m * t + u + w;
-    let apart = disjoint_from_first(larger).unwrap();
-    let master = array_of_td(alloc, k + 2, t, master)?;
     let small = array_of_td(alloc, k, m, small)?;
-    let large = array_of_td(alloc, k, m + 1, large)?;
-    let holed_large = holed(alloc, k, m, &large)?;
-    let larger = array_of_td(alloc, k, m + 2, larger)?;
-    let holed_larger = holed_twice(alloc, k, m, apart, &larger)?;
-    let first = array_of_td(alloc, k, u, first_rest)?;
-    let second = array_of_td(alloc, k, w, second_rest)?;
-    let mut rows = with_room(alloc, k, n)?;
-    push_fills_two(
-        &mut rows,
+    let large = holed_of_td(alloc, k, m, large)?;
+    let larger = holed_twice_of_td(alloc, k, m, larger)?;
+    let blocks = assemble_two(
+        alloc,
         k,
         m,
         t,
         u,
         w,
+        master,
         &small,
-        &holed_large,
-        &holed_larger,
-        &master,
+        &large,
+        &larger,
+        first_rest,
+        second_rest,
     )?;
-    push_raised(&mut rows, k, n, m * t, u, &first)?;
-    push_raised(&mut rows, k, n, m * t + u, w, &second)?;
-    let blocks = rows.canonical()?;
     Ok(blocks)
 }
