@@ -106,6 +106,7 @@ pub fn answer_offers<K: Sink>(
 ) -> Ending
     ensures ends { EndsWith (offers_report query.now refused.now valid []) result (K.held out.old) (K.held out.new) }
     ensures cause { HasFault result (K.faults out.old) (K.faults out.new) }
+    ensures memory { result ≢ Ending.NoMemory }
     ensures no_read { result ≢ Ending.ReadFault }
     ensures no_offer { (number : ℕ) → result ≢ Ending.CatalogueFault number }
     ensures answered { IsAnswer result }

@@ -1,5 +1,5 @@
 -- How a batch ends.
-use Rattle.std.proofs.Common.{◌≡◌, ◌≢◌, ℕ, ◌+◌, ◌-◌, Bool, true, false, cond, List, [], ◌∷◌, ◌++◌, length, Option, Some, None, Result, Ok, Err, IfSome, refl, ap, sym, ◌∙◌, subst, append-nil, append_assoc, arith}
+use Rattle.std.proofs.Common.{◌≡◌, ◌≢◌, ℕ, ◌+◌, ◌-◌, Bool, true, false, cond, List, [], ◌∷◌, ◌++◌, Option, Some, None, Ok, Err, IfSome, refl, ap, sym, ◌∙◌, subst, append-nil, append_assoc, arith}
 use Rattle.std.specs.Prelude.{drop, if◌then◌else◌, get_or}
 use Rattle.std.specs.List.{flat_map}
 use Rattle.std.proofs.Math.Seq.{drop-append_seam, get_or-append_seam}
@@ -7,7 +7,7 @@ use Rattle.std.proofs.lemmas.List.{get_or-append-add}
 use Rattle.std.proofs.lemmas.List.Concat.{flat_map-append}
 use Rattle.std.proofs.lemmas.List.Sums.{sum_by-append}
 use lib.Seq.{take-append_seam}
-use Rattle.std.specs.Io.KnownBytes.{Appends, Consumes, Keeps, prepend_known}
+use Rattle.std.specs.Io.KnownBytes.{Appends, Consumes, prepend_known}
 use Rattle.std.proofs.KnownBytes.{Appends-kept}
 use Rattle.catalogues.proofs.Held.{held_told, some_held}
 use Rattle.catalogues.specs.Consulted.{AreHeld, AreTold}
@@ -21,19 +21,19 @@ use Rattle.design_io.proofs.Pieces.{AppendsPart-first, AppendsPart-second}
 use Rattle.design_io.specs.Inputs.{IsInput}
 use Rattle.design_io.specs.Pieces.{AppendsPart}
 use Rattle.design_io.specs.declared.lines.LineEnd.TheVariants.{Failed, TooLong}
-use Rattle.design_io.specs.InputLines.{InputLine, LinesRead, GivesFrom, bytes_of, content_of, feeds_in, first_line, fits, is_feed, lines_of, size_of, too_long}
+use Rattle.design_io.specs.InputLines.{InputLine, LinesRead, GivesFrom, content_of, feeds_in, first_line, fits, is_feed, lines_of, size_of, too_long}
 use Rattle.design_lines.specs.Grammar.{parse_in_batch}
 use Rattle.design_lines.specs.declared.command.Command.TheVariants.{Batch}
 use Rattle.design_reports.specs.Answers.{EndsCut}
 use Rattle.design_reports.specs.Endings.{status_of}
-use Rattle.design_reports.specs.Reports.{Report, output, silent}
+use Rattle.design_reports.specs.Reports.{Report, silent}
 use Rattle.design_reports.specs.declared.ending.Ending.{Ending}
 use Rattle.design_reports.specs.declared.ending.Ending.TheVariants.{Yes, BadInput, ReadFault, CatalogueFault, NoMemory, WriteFault}
 use Rattle.design_reports.specs.declared.status.Status.TheVariants.{Usage}
-use Rattle.design_cli.proofs.Batches.{AreAnswered, IsAnswered, IsFirst, IsGiven, IsRead, bad_first, behind, bytes_more, given_fits, handed_behind, handed_first, one_more, with_line}
+use Rattle.design_cli.proofs.Batches.{AreAnswered, IsAnswered, IsFirst, IsGiven, IsRead, bad_first, behind, given_fits, handed_behind, handed_first, one_more, with_line}
 use Rattle.design_cli.proofs.Endings.{some_input}
-use Rattle.design_cli.specs.Batches.{AnswersLine, AppendsFirst, AreTaken, batch_from, batch_report, handed_on, in_front, line_answer, line_asks, lists_behind}
-use Rattle.design_cli.specs.Report.{asks_offers, command_lists, first_asks}
+use Rattle.design_cli.specs.Batches.{AnswersLine, AppendsFirst, batch_from, batch_report, handed_on, in_front, line_answer, line_asks, lists_behind}
+use Rattle.design_cli.specs.Report.{asks_offers, first_asks}
 use Rattle.design_cli.specs.Runs.{Answers, BreaksOn, HasLineFault, IsCount, LeavesEntries, Stands}
 use Rattle.design_cli.specs.declared.batching.Stop.TheVariants.{Catalogue, Memory, Write}
 

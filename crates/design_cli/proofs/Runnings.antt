@@ -1,13 +1,13 @@
 -- How a run ends, by how its answer ended.
-use Rattle.std.proofs.Common.{◌≡◌, ◌≢◌, ◌↔◌, ◌⊎◌, inl, inr, ℕ, Bool, List, [], ◌∷◌, Option, Some, None, Result, Ok, Err, true, false, refl, ap, subst, sym, ◌∙◌}
+use Rattle.std.proofs.Common.{◌≡◌, ◌≢◌, ◌↔◌, ◌⊎◌, inl, inr, ℕ, Bool, List, [], Option, Some, None, Result, Ok, Err, true, false, refl, ap, subst, sym, ◌∙◌}
 use Rattle.std.specs.Prelude.{if◌then◌else◌, get_or, length, nat_le}
 use Rattle.std.proofs.KnownBytes.{Appends-nil, Keeps-refl}
-use Rattle.std.specs.Io.KnownBytes.{Keeps}
 use Rattle.catalogues.proofs.Held.{held_told, some_held}
 use Rattle.catalogues.proofs.Left.{left_refl}
 use Rattle.catalogues.specs.Consulted.{AreHeld, AreTold, consulted}
 use Rattle.catalogues.specs.Entries.{Seen}
 use Rattle.catalogues.specs.declared.catalogue.Entry.{Entry}
+use Rattle.design_answers.proofs.Offered.{still_told}
 use Rattle.design_answers.specs.Answered.{AnswersOn, HasOfferFault, LeavesTold}
 use Rattle.design_answers.specs.Offers.{counted, ending_by}
 use Rattle.design_answers.specs.Unread.{IsRefused, ask_report, asks_catalogues, build_report, closure_lines, lists_after, reason_lines, unread_report}
@@ -133,19 +133,6 @@ module _ (left after : Option (List ℕ)) (old new : List Seen) (ending : Ending
     breaks = one_break command (command_report command text (command_lists command text entries)) held now other;
     leaves = λ told are_told. subst (AreTold new) (sym (behind_it command text entries other)) (leaves (subst (AreTold old) (sym (held_told old entries told are_held are_told)) are_told));
   }
-
--- catalogues that were not asked are as they were
-still_told : (ending : Ending) (seen : List Seen) (entries : List (List Entry)) → AreTold seen entries → LeavesTold ending seen entries
-still_told Yes seen entries told = told
-still_told No seen entries told = told
-still_told Unknown seen entries told = told
-still_told (Refused reason) seen entries told = told
-still_told NotBuilt seen entries told = told
-still_told (BadInput line) seen entries told = told
-still_told ReadFault seen entries told = told
-still_told (CatalogueFault number) seen entries told = tt
-still_told NoMemory seen entries told = tt
-still_told WriteFault seen entries told = told
 
 -- no answer to a check or a replay says that an offer failed
 abbrev pub NoOffer : Ending → Type 0

@@ -5,7 +5,6 @@ use Rattle.std.specs.Io.KnownBytes.{Appends, Keeps}
 use Rattle.catalogues.specs.Consulted.{AreHeld, AreTold}
 use Rattle.catalogues.specs.Entries.{Seen}
 use Rattle.catalogues.specs.declared.catalogue.Entry.{Entry}
-use Rattle.design_answers.specs.Answered.{HasOfferFault}
 use Rattle.design_answers.specs.Unread.{asks_catalogues, lists_after, unread_report}
 use Rattle.design_base.specs.declared.limits.TheConstants.{INPUT_MAX}
 use Rattle.design_io.specs.Faults.{Rose}

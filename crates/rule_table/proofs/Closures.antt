@@ -1,5 +1,5 @@
 -- What is reached from a question, and how many of it there are.
-use Rattle.std.proofs.Common.{◌≡◌, ◌⊎◌, ℕ, zero, suc, ◌+◌, ◌<◌, ◌==◌, Bool, true, false, ◌||◌, cond, List, [], ◌∷◌, ◌++◌, length, inl, inr, refl, sym, ap, ◌∙◌, subst, ⊎_elim, arith, add-one, eq-eqb, true≢false}
+use Rattle.std.proofs.Common.{◌≡◌, ℕ, zero, suc, ◌+◌, ◌<◌, ◌==◌, Bool, true, false, ◌||◌, cond, List, [], ◌∷◌, ◌++◌, length, refl, sym, ap, ◌∙◌, ⊎_elim, arith, add-one}
 use Rattle.std.specs.Prelude.{flat_map}
 use Rattle.std.specs.List.{list_any, AllByRecursion}
 use Rattle.std.specs.Cmp.{nat_cmp_total}
@@ -20,7 +20,7 @@ use Rattle.rule_table.specs.Told.{Cells, Has}
 use Rattle.rule_table.proofs.Each.{each-weaker}
 use Rattle.rule_table.proofs.Passing.{IsBelow}
 use Rattle.rule_table.proofs.Works.{asked_fall}
-use Rattle.rule_table.proofs.Sets.{cells_any, same_any, same_cells, union_from, union_right, union_left, empty_has}
+use Rattle.rule_table.proofs.Sets.{cells_any, same_any, same_cells, union_from, union_right, empty_has}
 
 flat_map-same : (f g : Query → List Query) (ps : List Query) → AllByRecursion (λ p. f p ≡ g p) ps → flat_map f ps ≡ flat_map g ps
 flat_map-same f g [] h = refl

@@ -1,13 +1,12 @@
 -- The cells whose word is not 0, before and after a write; and what was learned when a verdict is noted.
-use Rattle.std.proofs.Common.{◌≡◌, ◌≢◌, ◌⊎◌, ℕ, zero, suc, ◌+◌, ◌<◌, ◌≤◌, List, [], ◌∷◌, length, Bool, true, false, cond, inl, inr, refl, sym, ap, ◌∙◌, subst, ⊎_elim, set, replicate, arith, eq-eqb, ne_eqb}
-use Rattle.std.specs.Prelude.{slice_index, Option, Some, None, MatchOption}
+use Rattle.std.proofs.Common.{◌≡◌, ◌≢◌, ◌⊎◌, ℕ, zero, suc, ◌+◌, ◌<◌, ◌≤◌, List, [], ◌∷◌, length, true, cond, inl, inr, refl, sym, ap, ◌∙◌, subst, ⊎_elim, set, replicate, arith, eq-eqb, ne_eqb}
+use Rattle.std.specs.Prelude.{slice_index, Some}
 use Rattle.std.proofs.lemmas.Bool.{cases_eq}
 use Rattle.std.proofs.lemmas.List.{length-replicate, length-set, get_or-set_same, get_or-set_other}
 use Rattle.std.specs.FinSet as sets
 use Rattle.std.specs.Ordering.{nat_cmp}
 use Rattle.design_base.specs.declared.cells.TheConstants.{CELLS}
 use Rattle.design_base.specs.declared.query.Query.{Query}
-use Rattle.design_base.specs.declared.verdict.Verdict.{Verdict}
 use Rattle.design_base.specs.Cells.{cell_of}
 use Rattle.design_base.specs.Codes.{read_code}
 use Rattle.design_base.specs.Limits.{in_bounds}

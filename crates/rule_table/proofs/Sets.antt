@@ -1,5 +1,5 @@
 -- Sets of cells, by what they have and how many.
-use Rattle.std.proofs.Common.{◌≡◌, ◌⊎◌, ℕ, suc, ◌+◌, ◌≤◌, Bool, true, false, ◌||◌, cond, List, [], ◌∷◌, ◌++◌, map, inl, inr, refl, sym, ap, ◌∙◌, subst, ⊎_elim, true≢false, eq-eqb, arith}
+use Rattle.std.proofs.Common.{◌≡◌, ◌⊎◌, ℕ, ◌+◌, ◌≤◌, Bool, true, false, ◌||◌, cond, List, [], ◌∷◌, ◌++◌, map, inl, inr, refl, sym, ap, ◌∙◌, subst, ⊎_elim, true≢false, eq-eqb, arith}
 use Rattle.std.specs.Prelude.{nat_eq}
 use Rattle.std.specs.List.{list_any}
 use Rattle.std.specs.Ordering.{nat_cmp}
@@ -8,7 +8,7 @@ use Rattle.std.specs.FinSet as set
 use Rattle.std.specs.FinSet.{nat_cmp-IsAntisymmetric}
 use Rattle.design_base.specs.declared.query.Query.{Query}
 use Rattle.design_base.specs.Cells.{cell_of}
-use Rattle.rule_table.specs.Closure.{cells_of, is_at, once}
+use Rattle.rule_table.specs.Closure.{cells_of, is_at}
 use Rattle.rule_table.specs.Told.{Cells, Has}
 
 either_of : (a b : Bool) → (a || b) ≡ true → (a ≡ true) ⊎ (b ≡ true)

@@ -1,5 +1,5 @@
 -- A visit in the midst of its walk.
-use Rattle.std.proofs.Common.{◌≡◌, ◌⊎◌, ℕ, ◌+◌, ◌<◌, true, List, [], ◌∷◌, ◌++◌, inl, inr, refl, sym, ap, ◌∙◌, subst, ⊎_elim, arith}
+use Rattle.std.proofs.Common.{◌≡◌, ℕ, ◌<◌, true, List, [], ◌∷◌, ◌++◌, sym, ap, ◌∙◌, subst, ⊎_elim, arith}
 use Rattle.std.specs.Prelude.{Option, flat_map}
 use Rattle.std.specs.FinSet as set
 use Rattle.std.proofs.lemmas.List.{append-nil}
@@ -11,7 +11,7 @@ use Rattle.design_base.proofs.Numbering.{same_question}
 use Rattle.rule_terms.specs.Rank.{rank}
 use Rattle.rule_table.specs.Asked.{asked}
 use Rattle.rule_table.specs.Closure.{reached, closure, cells_of, with_closure, IsClosed}
-use Rattle.rule_table.specs.Progress.{Progress, AsksNext, answered_next}
+use Rattle.rule_table.specs.Progress.{Progress, answered_next}
 use Rattle.rule_table.specs.Told.{Cells, Has, ToldAfter, KeptAfter}
 use Rattle.rule_table.proofs.Closures.{reached_unfolds, closure_cells}
 use Rattle.rule_table.proofs.Sets.{same_cells, insert_has, insert_keeps, insert_from, empty_has, union_left, union_right, union_from, append_left, append_right, append_from, cells_any}

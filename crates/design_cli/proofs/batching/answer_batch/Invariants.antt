@@ -1,4 +1,4 @@
-use Rattle.std.proofs.Common.{◌≡◌, ◌<◌, ◌^◌, ◌≤◌, length, map}
+use Rattle.std.proofs.Common.{◌<◌, ◌^◌, ◌≤◌, length, map}
 use Rattle.std.specs.Io.KnownBytes.{prepend_known}
 use Rattle.design_cli.proofs.Batches.{IsAnswered}
 use Rattle.design_cli.proofs.batching.answer_batch.Given as goal

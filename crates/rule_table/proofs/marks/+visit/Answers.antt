@@ -1,8 +1,7 @@
 use Rattle.std.proofs.Common.{◌≡◌, ◌<◌, ◌-◌, refl, ap, sym, ◌∙◌, subst, arith}
 use Rattle.rule_terms.specs.Rank.{rank}
-use Rattle.rule_table.specs.Closure.{with_closure, IsClosed}
+use Rattle.rule_table.specs.Closure.{IsClosed}
 use Rattle.rule_table.specs.Progress.{Progress}
-use Rattle.rule_table.specs.Told.{Cells}
 use Rattle.rule_table.proofs.Closures.{closure_alone}
 use Rattle.rule_table.proofs.Told.{kept_same}
 use Rattle.rule_table.proofs.Visiting.{Visiting, visit_begins, visit_goes_on, visit_ends, visit_closes, visited_already, kept_on}

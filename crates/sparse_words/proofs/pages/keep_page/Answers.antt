@@ -1,4 +1,4 @@
-use Rattle.std.proofs.Common.{◌≡◌, length, sym, rules}
+use Rattle.std.proofs.Common.{◌≡◌, length, rules}
 use Rattle.std.specs.Prelude.{vec_len, vec_capacity, slice_index, ◌/◌, ◌<◌, ◌^◌}
 use Rattle.sparse_words.proofs.Paging.{room_left, place_small, page_made, words_kept}
 use Rattle.sparse_words.proofs.pages.keep_page.Goals as goal

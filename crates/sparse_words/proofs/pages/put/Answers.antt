@@ -1,6 +1,6 @@
-use Rattle.std.proofs.Common.{◌≡◌, ap, sym, subst, ◌∙◌, arith, ◌+◌, ◌*◌, set}
+use Rattle.std.proofs.Common.{◌≡◌, sym, subst, ◌∙◌, arith, ◌+◌, ◌*◌, set}
 use Rattle.std.proofs.lemmas.List.{get_or_read}
-use Rattle.std.specs.Prelude.{ℕ, List, slice_index, ◌/◌, ◌%◌}
+use Rattle.std.specs.Prelude.{ℕ, slice_index, ◌/◌, ◌%◌}
 use Rattle.sparse_words.specs.Pages.{ArePages, word_at}
 use Rattle.sparse_words.proofs.Paging.{word_put, word_own, word_others}
 use Rattle.sparse_words.proofs.pages.put.Goals as goal

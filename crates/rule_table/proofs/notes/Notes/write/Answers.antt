@@ -1,5 +1,5 @@
-use Rattle.std.proofs.Common.{◌≡◌, ℕ, ◌<◌, length, sym, ◌∙◌, ap, subst, arith}
-use Rattle.std.specs.Prelude.{List, Some}
+use Rattle.std.proofs.Common.{sym, ◌∙◌, ap, subst, arith}
+use Rattle.std.specs.Prelude.{Some}
 use Rattle.std.specs.FinSet as set
 use Rattle.design_base.specs.Cells.{cell_of}
 use Rattle.rule_table.specs.Noted.{noted, AreNotes}

@@ -1,8 +1,7 @@
-use Rattle.std.proofs.Common.{◌≡◌, refl, ℕ, List, ◌+◌, ◌*◌, ◌<◌, length, ap, sym, ◌∙◌, arith, rules, set, replicate}
-use Rattle.std.specs.Prelude.{slice_index, vec_len, vec_capacity, ◌/◌, ◌%◌}
-use Rattle.std.proofs.lemmas.List.{get_or_read, length-replicate}
-use Rattle.sparse_words.specs.Pages.{row_of, word_at}
-use Rattle.sparse_words.proofs.Paging.{index_within, row_get, row_length, row_set, no_pages, no_words, first_page, page_left}
+use Rattle.std.proofs.Common.{◌≡◌, refl, ◌+◌, length, ap, ◌∙◌, arith}
+use Rattle.std.specs.Prelude.{vec_len, ◌/◌}
+use Rattle.std.proofs.lemmas.List.{length-replicate}
+use Rattle.sparse_words.proofs.Paging.{no_pages, no_words, first_page}
 use Rattle.sparse_words.proofs.words.SparseWords.new.Goals as goal
 
 pub invariant_of-result : goal.invariant_of-result

@@ -1,8 +1,6 @@
-use Rattle.std.proofs.Common.{◌≡◌, refl, ℕ, List, ◌+◌, ◌*◌, ◌<◌, length, ap, sym, ◌∙◌, arith, rules, set, replicate}
-use Rattle.std.specs.Prelude.{slice_index, vec_len, vec_capacity, ◌/◌, ◌%◌}
-use Rattle.std.proofs.lemmas.List.{get_or_read, length-replicate}
+use Rattle.std.proofs.Common.{◌≡◌, ℕ, List, ◌<◌, length, ap, ◌∙◌, arith, set}
 use Rattle.sparse_words.specs.Pages.{row_of, word_at}
-use Rattle.sparse_words.proofs.Paging.{index_within, row_get, row_length, row_set, no_pages, no_words, first_page, page_left}
+use Rattle.sparse_words.proofs.Paging.{row_length, row_set}
 use Rattle.sparse_words.proofs.words.SparseWords.set.Goals as goal
 
 pub put-requires-clause-within : goal.put-requires-clause-within
