@@ -3,7 +3,7 @@ ghost use Rattle.std.specs.Prelude.{◌<◌, ◌^◌, length};
 
 use crate::cases::{Case, holds_with, told};
 use catalogues::{Catalogue, ListCatalogue, SourceCatalogue, read_catalogue};
-use design_base::{Group, Query};
+use design_base::{Group, Memory, Query};
 use design_io::MemorySource;
 use incidence::Rows;
 use std::alloc::{AllocError, Global};
@@ -164,10 +164,8 @@ fn sources_are_asked(rt: HostRuntime) -> Result<(), Fail> {
     Ok(())
 }
 
-// A list whose first offer fails stays, and says so by its number.
-#[test]
-fn an_offer_that_fails(rt: HostRuntime) -> Result<(), Fail> {
-    let alloc = rt.alloc();
+// A list whose first offer fails: a difference family for a question that is open.
+fn failing_list(alloc: Global) -> Result<ListCatalogue, Memory> {
     let mut rows = Rows::new(alloc);
     rows.push_row(&[0, 1, 4])?;
     rows.push_row(&[0, 2, 7])?;
@@ -179,9 +177,17 @@ fn an_offer_that_fails(rt: HostRuntime) -> Result<(), Fail> {
     };
     let mut list = ListCatalogue::new(alloc, vec![in alloc; 1]?);
     list.add(query, rows)?;
+    Ok(list)
+}
+
+// It stays, and says that it failed by its number.
+#[test]
+fn an_offer_that_fails(rt: HostRuntime) -> Result<(), Fail> {
+    let alloc = rt.alloc();
+    let empty = ListCatalogue::new(alloc, Vec::new(alloc));
     let mut catalogues: Vec<Box<dyn Catalogue>> = Vec::new(alloc);
-    catalogues.push(Box::new(alloc, ListCatalogue::new(alloc, Vec::new(alloc)))?)?;
-    catalogues.push(Box::new(alloc, list)?)?;
+    catalogues.push(Box::new(alloc, empty)?)?;
+    catalogues.push(Box::new(alloc, failing_list(alloc)?)?)?;
     let fails = told("build df z 13 3 1", "", "", "catalogue fault at 2\n", 69);
     assert!(rt; holds_with(alloc, &fails, &mut catalogues)?);
     assert_eq!(rt; catalogues.len(), 1);

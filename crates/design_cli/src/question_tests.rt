@@ -1,5 +1,7 @@
 //! The answers to questions.
 use crate::cases::{holds, told};
+use std::alloc::Global;
+use std::process::Abort;
 use std::test::Fail;
 
 const DOUBLE_6: &str = "bibd 6 3 2 yes double
@@ -275,8 +277,21 @@ square 2
 3 4 5 6 0 1 2 8 9 7
 ";
 
+// Asserts what the program answers to words alone, and its status.
+fn assert_answer(
+    rt: &impl Abort,
+    alloc: Global,
+    words: &'static str,
+    output: &'static str,
+    status: u8,
+) -> Result<(), Fail> {
+    let right = holds(alloc, &told(words, "", output, "", status))?;
+    assert!(rt; right, "at {words}");
+    Ok(())
+}
+
 #[test]
-fn questions_are_answered(rt: HostRuntime) -> Result<(), Fail> {
+fn questions_are_asked(rt: HostRuntime) -> Result<(), Fail> {
     for (words, output, status) in [
         ("ask td 6 4", "td 6 4 no groups\n", 1),
         ("ask td 5 4", "td 5 4 yes field\n", 0),
@@ -284,29 +299,40 @@ fn questions_are_answered(rt: HostRuntime) -> Result<(), Fail> {
         ("ask td 66 64", "td 66 64 no groups\n", 1),
         ("ask td 4 6", "td 4 6 unknown\n", 2),
         ("ask mols 14 2", "td 4 14 unknown\n", 2),
+        ("ask bibd 8 3 5", "bibd 8 3 5 no replication\n", 1),
+        ("ask bibd 5 3 1", "bibd 5 3 1 no count\n", 1),
+        ("ask bibd 16 6 1", "bibd 16 6 1 no fisher\n", 1),
+        ("ask bibd 36 15 1", "bibd 36 15 1 no replication\n", 1),
+        ("ask bibd 8 3 6", "bibd 8 3 6 yes ordered\n", 0),
+        ("ask bibd 128 2 6", "bibd 128 2 6 yes pairs\n", 0),
+        ("ask plane 3", "bibd 13 4 1 yes projective 3 2\n", 0),
+        ("ask plane 6", "bibd 43 7 1 unknown\n", 2),
+        ("ask bibd 15 5 2", "bibd 15 5 2 unknown\n", 2),
+        ("ask bibd 10 6 5", "bibd 10 6 5 unknown\n", 2),
+        ("ask bibd 28 4 1", "bibd 28 4 1 yes unital 3\n", 0),
+        ("ask bibd 52 4 1", "bibd 52 4 1 yes arc 2 4\n", 0),
+        ("ask gdd 4 2 4", "gdd 4 2 4 no groups\n", 1),
+        ("ask gdd 4 3 2", "gdd 4 3 2 no fewgroups\n", 1),
+        ("ask gdd 3 2 64", "gdd 3 2 64 yes weight 2 4\n", 0),
+        ("ask pbd 10 3", "pbd 10 3 yes truncate 3 1\n", 0),
+    ] {
+        assert_answer(&rt, rt.alloc(), words, output, status)?;
+    }
+    Ok(())
+}
+
+#[test]
+fn verdicts_are_explained(rt: HostRuntime) -> Result<(), Fail> {
+    for (words, output, status) in [
         ("explain td 6 4", "td 6 4 no groups\nbecause 6 5\n", 1),
         ("explain td 66 64", "td 66 64 no groups\nbecause 66 65\n", 1),
         ("explain oa 4 6", "td 4 6 unknown\n", 2),
         ("explain td 4 18", DERIVATION_18, 0),
-        ("build td 6 4", "td 6 4 no groups\n", 1),
-        ("build td 4 6", "td 4 6 unknown\n", 2),
-        ("build oa 3 2", ARRAY_2, 0),
-        ("build oa 5 4", ARRAY_4, 0),
-        ("build mols 3 2", SQUARES_3, 0),
-        ("build mols 10 2", SQUARES_10, 0),
         (
             "explain df z 12 3 1",
             "df z 12 3 1 no differences\nbecause 11 6\n",
             1,
         ),
-        ("build df z 13 3 1", "df z 13 3 1 unknown\n", 2),
-        ("build df z 13 4 1", FAMILY_13, 0),
-        ("ask bibd 8 3 5", "bibd 8 3 5 no replication\n", 1),
-        ("ask bibd 5 3 1", "bibd 5 3 1 no count\n", 1),
-        ("ask bibd 16 6 1", "bibd 16 6 1 no fisher\n", 1),
-        ("ask bibd 36 15 1", "bibd 36 15 1 no replication\n", 1),
-        ("build bibd 21 6 1", "bibd 21 6 1 no fisher\n", 1),
-        ("build bibd 8 3 1", "bibd 8 3 1 no replication\n", 1),
         (
             "explain bibd 16 6 1",
             "bibd 16 6 1 no fisher\nbecause 3 6\n",
@@ -317,17 +343,34 @@ fn questions_are_answered(rt: HostRuntime) -> Result<(), Fail> {
             "bibd 8 3 1 no replication\nbecause 7 2\n",
             1,
         ),
-        ("ask bibd 8 3 6", "bibd 8 3 6 yes ordered\n", 0),
-        ("ask bibd 128 2 6", "bibd 128 2 6 yes pairs\n", 0),
-        ("ask plane 3", "bibd 13 4 1 yes projective 3 2\n", 0),
-        ("ask plane 6", "bibd 43 7 1 unknown\n", 2),
-        ("ask bibd 15 5 2", "bibd 15 5 2 unknown\n", 2),
-        ("ask bibd 10 6 5", "bibd 10 6 5 unknown\n", 2),
-        ("ask bibd 28 4 1", "bibd 28 4 1 yes unital 3\n", 0),
-        ("ask bibd 52 4 1", "bibd 52 4 1 yes arc 2 4\n", 0),
         ("explain bibd 7 3 2", COSETS_7, 0),
         ("explain bibd 9 3 4", SUM_9, 0),
         ("explain bibd 49 4 1", FILLED_49, 0),
+        (
+            "explain gdd 4 3 2",
+            "gdd 4 3 2 no fewgroups\nbecause 2 4\n",
+            1,
+        ),
+        ("explain pbd 7 5", "pbd 7 5 no points\nbecause 6 5\n", 1),
+    ] {
+        assert_answer(&rt, rt.alloc(), words, output, status)?;
+    }
+    Ok(())
+}
+
+#[test]
+fn designs_are_built(rt: HostRuntime) -> Result<(), Fail> {
+    for (words, output, status) in [
+        ("build td 6 4", "td 6 4 no groups\n", 1),
+        ("build td 4 6", "td 4 6 unknown\n", 2),
+        ("build oa 3 2", ARRAY_2, 0),
+        ("build oa 5 4", ARRAY_4, 0),
+        ("build mols 3 2", SQUARES_3, 0),
+        ("build mols 10 2", SQUARES_10, 0),
+        ("build df z 13 3 1", "df z 13 3 1 unknown\n", 2),
+        ("build df z 13 4 1", FAMILY_13, 0),
+        ("build bibd 21 6 1", "bibd 21 6 1 no fisher\n", 1),
+        ("build bibd 8 3 1", "bibd 8 3 1 no replication\n", 1),
         (
             "build bibd 3 3 1",
             "bibd 3 3 1 yes whole\nderivation 1\n1 bibd 3 3 1 whole\nend 1\nblocks 1\n0 1 2\n",
@@ -338,20 +381,9 @@ fn questions_are_answered(rt: HostRuntime) -> Result<(), Fail> {
         ("build plane 3", PLANE_3, 0),
         ("build bibd 16 4 1", AFFINE_16, 0),
         ("build bibd 25 4 1", TRANSLATES_25, 0),
-        ("ask gdd 4 2 4", "gdd 4 2 4 no groups\n", 1),
-        ("ask gdd 4 3 2", "gdd 4 3 2 no fewgroups\n", 1),
-        ("ask gdd 3 2 64", "gdd 3 2 64 yes weight 2 4\n", 0),
-        (
-            "explain gdd 4 3 2",
-            "gdd 4 3 2 no fewgroups\nbecause 2 4\n",
-            1,
-        ),
         ("build gdd 3 2 4", DELETED_9, 0),
-        ("ask pbd 10 3", "pbd 10 3 yes truncate 3 1\n", 0),
-        ("explain pbd 7 5", "pbd 7 5 no points\nbecause 6 5\n", 1),
     ] {
-        let right = holds(rt.alloc(), &told(words, "", output, "", status))?;
-        assert!(rt; right, "at {words}");
+        assert_answer(&rt, rt.alloc(), words, output, status)?;
     }
     Ok(())
 }
