@@ -2,7 +2,8 @@
 use Rattle.std.proofs.Common.{List, [], ap, arith, get_or, length, refl, sym, true, ℕ, ◌*◌, ◌<◌, ◌∙◌, ◌≡◌, ◌≤◌}
 use Rattle.std.proofs.lemmas.List.Sums.{passes_at_first}
 use Rattle.std.specs.List.{sum_by}
-use Rattle.counting.proofs.Counts.{both_equal, both_equal-from, grid_one, one-false, one-true, sum_below-mul, sum_below-same}
+use Rattle.counting.proofs.Booleans.{both_equal, both_equal-from}
+use Rattle.counting.proofs.Counts.{grid_one, one-false, one-true, sum_below-mul, sum_below-same}
 use Rattle.counting.proofs.Lists.{sum_by-agree, sum_by-sum_below}
 use Rattle.counting.proofs.OnePlace.{one_place, some_place, sum_at}
 use Rattle.counting.specs.Sums.{one, sum_below}

@@ -1,6 +1,6 @@
 -- Lists that are joined over the numbers below a bound.
 use Rattle.std.proofs.Common.{List, [], ap, arith, get_or, inl, inr, length, sym, suc, zero, ℕ, ◌*◌, ◌++◌, ◌+◌, ◌<◌, ◌∙◌, ◌∷◌, ◌≡◌}
-use Rattle.std.proofs.lemmas.Bool.{cases_eq}
+use Rattle.counting.proofs.Booleans.{cases_eq}
 use Rattle.std.proofs.lemmas.List.{get_or-append-add, get_or_append_left, length-append}
 use Rattle.std.proofs.lemmas.Nat.{mul-add-lt}
 use Rattle.counting.proofs.Ranges.{join_below-same}

@@ -1,6 +1,6 @@
 -- A small array and two small squares, by computing.
 use Rattle.std.proofs.Common.{Bool, List, [], arith, inl, inr, lit<, refl, suc, true, zero, ℕ, ◌&&◌, ◌<◌, ◌==◌, ◌∷◌, ◌≡◌}
-use Rattle.std.proofs.lemmas.Bool.{and_parts, cases_eq, eqb-true}
+use Rattle.counting.proofs.Booleans.{both, cases_eq, eqb-true}
 use Rattle.std.proofs.lemmas.List.Elements.{All-from_recursion}
 use Rattle.counting.specs.Sums.{one, sum_below}
 use Rattle.design_base.specs.Arrays.{IsOa, IsRow, agree}
@@ -13,7 +13,7 @@ all_below (suc n) p = p n && all_below n p
 
 at : (n : ℕ) (p : ℕ → Bool) (i : ℕ) → all_below n p ≡ true → i < n → p i ≡ true
 at zero p i e l = absurd (omega arith)
-at (suc n) p i e l = let parts = and_parts (p n) (all_below n p) e in elim (cases_eq i n) [
+at (suc n) p i e l = let parts = both (p n) (all_below n p) e in elim (cases_eq i n) [
   | inl s ↦ rw s parts.0
   | inr ne ↦ at n p i parts.1 (omega arith)
 ]

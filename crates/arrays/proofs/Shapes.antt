@@ -1,7 +1,7 @@
 -- The first bad line, and the shape of lines none of which is bad.
 use Rattle.std.proofs.Common.{Bool, List, None, Option, Some, [], ap, arith, false, get_or, length, min, not, refl, subst, sym, take, true, ℕ, ◌*◌, ◌+◌, ◌<◌, ◌==◌, ◌&&◌, ◌∙◌, ◌≡◌, ◌≤◌}
 use Rattle.std.proofs.Math.Seq.{take-length}
-use Rattle.std.proofs.lemmas.Bool.{and_parts, eqb-true, ltb-true}
+use Rattle.counting.proofs.Booleans.{and_from, both, eq-eqb, eqb-true, lt-ltb, ltb-true}
 use Rattle.std.proofs.lemmas.Bool.Decides.{nat_tests}
 use Rattle.std.proofs.lemmas.List.{get_or-take, get_or_default, length-take}
 use Rattle.std.proofs.lemmas.List.Sums.{AllPass-from_list_all, fails_before_first, list_all-from_AllPass, position_or_len_is}
@@ -41,7 +41,7 @@ bad_row_none k n wanted L i l before = ap (option_map (λ i. i + 1)) (place_none
 -- a line of the right shape
 row_from_test : (k n : ℕ) (line : List ℕ) → is_row k n line ≡ true → IsRow k n line
 unfolding is_row
-row_from_test k n line e = let t = and_parts (length line == k) (list_all (λ a. nat_lt a n) line) e in record {
+row_from_test k n line e = let t = both (length line == k) (list_all (λ a. nat_lt a n) line) e in record {
   size = eqb-true (length line) k t.0;
   below = λ i d l. ltb-true (get_or line i d) n (AllPass-from_list_all (λ a. nat_lt a n) line t.1 i d l);
 }
@@ -56,17 +56,7 @@ rows_from_none k n L none = λ i d l. row_from_test k n (get_or L i d) (ap (is_r
 test_from_row : (k n : ℕ) (line : List ℕ) → IsRow k n line → is_row k n line ≡ true
 unfolding is_row
 test_from_row k n line row =
-    both _ _ (is_equal (length line) k row.size) (list_all-from_AllPass (λ a. nat_lt a n) line (λ i d l. is_less (get_or line i d) n (row.below i d l)))
-  where
-    both : (a b : Bool) → a ≡ true → b ≡ true → (a && b) ≡ true
-    both true b e f = f
-    both false b e f = e
-
-    is_equal : (a b : ℕ) → a ≡ b → (a == b) ≡ true
-    is_equal a b e = grind (arith, nat_tests)
-
-    is_less : (a b : ℕ) → a < b → nat_lt a b ≡ true
-    is_less a b l = grind (arith, nat_tests)
+    and_from _ _ (eq-eqb (length line) k row.size) (list_all-from_AllPass (λ a. nat_lt a n) line (λ i d l. lt-ltb (get_or line i d) n (row.below i d l)))
 
 pub none_from_rows : (k n : ℕ) (L : List (List ℕ)) → All (IsRow k n) L → bad_row k n L ≡ None
 none_from_rows k n L rows =

@@ -1,11 +1,11 @@
 -- The rows of squares are an orthogonal array exactly where the squares are orthogonal Latin squares.
 use Rattle.std.proofs.Common.{List, [], ap, ap₂, arith, get_or, length, refl, subst, suc, sym, zero, ℕ, ◌&&◌, ◌*◌, ◌+◌, ◌<◌, ◌==◌, ◌∙◌, ◌∷◌, ◌≡◌, ◌↔◌}
-use Rattle.std.proofs.lemmas.Bool.{eq-eqb}
+use Rattle.counting.proofs.Booleans.{both_equal, both_equal-from, eq-eqb}
 use Rattle.std.proofs.lemmas.Grind.{same_number_lists}
 use Rattle.std.proofs.lemmas.List.Elements.{All-from_recursion}
 use Rattle.std.proofs.lemmas.Nat.{mul-add-lt}
 use Rattle.std.specs.Prelude.{All}
-use Rattle.counting.proofs.Counts.{both_equal, both_equal-from, grid_one, one-false, sum_below-at, sum_below-same, sum_below-zero}
+use Rattle.counting.proofs.Counts.{grid_one, one-false, sum_below-at, sum_below-same, sum_below-zero}
 use Rattle.counting.proofs.Lists.{sum_by-join_below, sum_by-single}
 use Rattle.counting.proofs.Ranges.{All-join_below, each_below, get_or-list_below, join_below-same, length-list_below}
 use Rattle.counting.specs.Sums.{list_below, one, sum_below}

@@ -1,9 +1,9 @@
 -- The differences of a difference family, counted by elements of the group and by base blocks.
 use Rattle.std.proofs.Common.{List, ap, arith, length, refl, suc, sym, true, zero, ℕ, ◌*◌, ◌+◌, ◌-◌, ◌<◌, ◌==◌, ◌∙◌, ◌≡◌, ◌≤◌}
-use Rattle.std.proofs.lemmas.Bool.{eq-eqb, eqb-true}
+use Rattle.counting.proofs.Booleans.{eq-eqb, eqb-true, eqb-turn}
 use Rattle.std.specs.List.{sum_by}
 use Rattle.counting.proofs.ButOne.{sum_below-but_const}
-use Rattle.counting.proofs.Counts.{eqb-turn, count_one, one-true, sum_below-same}
+use Rattle.counting.proofs.Counts.{count_one, one-true, sum_below-same}
 use Rattle.counting.proofs.Lists.{each_all, sum_by-agree, sum_by-mul-one, sum_by-same, sum_by-sum_below}
 use Rattle.counting.specs.Sums.{one, sum_below}
 use Rattle.design_base.proofs.Points.{one-holds}

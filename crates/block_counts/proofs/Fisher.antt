@@ -1,7 +1,7 @@
 -- Fisher's inequality, by the meets of one block with the others.
 use Rattle.std.proofs.Common.{List, [], ap, arith, get_or, inl, inr, length, subst, suc, zero, ℕ, ◌*◌, ◌+◌, ◌-◌, ◌<◌, ◌∷◌, ◌≡◌, ◌≤◌}
 use Rattle.std.proofs.Math.Nat.{le_dest, le_of_mul-le-mul_left, mul-le-mul_left, mul-le-mul_right, mul-pos}
-use Rattle.std.proofs.lemmas.Bool.{cases_lt}
+use Rattle.counting.proofs.Booleans.{cases_lt}
 use Rattle.std.proofs.lemmas.List.Edits.{length-remove}
 use Rattle.std.specs.List.{sum_by}
 use Rattle.std.specs.Prelude.{remove}

@@ -1,6 +1,6 @@
 -- Pairs of a point and a block that holds it, counted by points and by blocks.
 use Rattle.std.proofs.Common.{Bool, List, ap, arith, false, get_or, inl, inr, length, refl, sym, true, ℕ, ◌&&◌, ◌*◌, ◌+◌, ◌<◌, ◌==◌, ◌∙◌, ◌≡◌, ◌≢◌}
-use Rattle.std.proofs.lemmas.Bool.{cases_order, eq-eqb}
+use Rattle.counting.proofs.Booleans.{cases_order, eq-eqb}
 use Rattle.std.proofs.lemmas.List.Folds.{list_any_at}
 use Rattle.std.specs.List.{sum_by}
 use Rattle.std.specs.Prelude.{All}

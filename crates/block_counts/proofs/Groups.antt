@@ -1,10 +1,10 @@
 -- Group divisible designs: the replication number, the number of blocks, and how many groups a block needs.
 use Rattle.std.proofs.Common.{Bool, List, [], ap, arith, cond, false, get_or, length, mul_comm, refl, suc, sym, true, zero, ℕ, ◌*◌, ◌+◌, ◌-◌, ◌/◌, ◌<◌, ◌==◌, ◌∙◌, ◌∷◌, ◌≡◌, ◌≢◌, ◌≤◌}
 use Rattle.std.proofs.Math.Nat.{div-mul-le_self, div_self, zero-div, mul-le-mul_left}
-use Rattle.std.proofs.lemmas.Bool.{eq-eqb, eqb-true}
+use Rattle.counting.proofs.Booleans.{bool_same, eq-eqb, eqb-true}
 use Rattle.std.proofs.lemmas.Nat.{div-mul-add, div_below, le-div}
 use Rattle.counting.proofs.ButOne.{sum_below-groups}
-use Rattle.counting.proofs.Counts.{bool_same, count_equal, one-false, sum_below-add, sum_below-const, sum_below-mul, sum_below-same}
+use Rattle.counting.proofs.Counts.{count_equal, one-false, sum_below-add, sum_below-const, sum_below-mul, sum_below-same}
 use Rattle.counting.specs.Sums.{one, sum_below}
 use Rattle.design_base.proofs.Cover.{cover-none}
 use Rattle.design_base.proofs.Points.{cover_positive, holds_element}

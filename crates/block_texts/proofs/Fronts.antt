@@ -1,7 +1,7 @@
 -- The bytes at the front of a text, and the first of its parts.
 use Rattle.std.proofs.Common.{◌≡◌, ℕ, zero, suc, ◌+◌, ◌<◌, ◌≤◌, Bool, true, false, cond, List, [], ◌∷◌, ◌++◌, length, take, drop, get_or, refl, ap, sym, ◌∙◌, arith}
 use Rattle.std.specs.List.{list_all, onto_first, prefix_len, slice_split, take_while}
-use Rattle.std.proofs.lemmas.Bool.{and_parts}
+use Rattle.counting.proofs.Booleans.{both}
 use Rattle.std.proofs.lemmas.List.Splits.{slice_split-cons_no, slice_split-cons_yes}
 use Rattle.std.proofs.lemmas.List.Sums.{take_while-cons}
 use Rattle.block_texts.specs.Fronts.{behind_all, first_of}
@@ -53,18 +53,18 @@ module _ (passes : ℕ → Bool) where
   counted [] count short all stops = omega (arith, short)
   counted (byte ∷ text) zero short all stops = ap (λ b. cond b (1 + prefix_len passes text) 0) (stops (omega arith))
   counted (byte ∷ text) (suc count) short all stops =
-      let both = and_parts (passes byte) (list_all passes (take count text)) all in
-      let rest : prefix_len passes text ≡ count = counted text count (omega (arith, short)) both.1 (λ more. stops (omega (arith, more))) in
-      ap (λ b. cond b (1 + prefix_len passes text) 0) both.0 ∙ omega (arith, rest)
+      let split = both (passes byte) (list_all passes (take count text)) all in
+      let rest : prefix_len passes text ≡ count = counted text count (omega (arith, short)) split.1 (λ more. stops (omega (arith, more))) in
+      ap (λ b. cond b (1 + prefix_len passes text) 0) split.0 ∙ omega (arith, rest)
 
   -- so many pass at least
   pub counted_least : (text : List ℕ) (count : ℕ) → count ≤ length text → list_all passes (take count text) ≡ true → count ≤ prefix_len passes text
   counted_least [] count short all = short
   counted_least (byte ∷ text) zero short all = omega arith
   counted_least (byte ∷ text) (suc count) short all =
-      let both = and_parts (passes byte) (list_all passes (take count text)) all in
-      let rest : count ≤ prefix_len passes text = counted_least text count (omega (arith, short)) both.1 in
-      let next : prefix_len passes (byte ∷ text) ≡ 1 + prefix_len passes text = ap (λ b. cond b (1 + prefix_len passes text) 0) both.0 in
+      let split = both (passes byte) (list_all passes (take count text)) all in
+      let rest : count ≤ prefix_len passes text = counted_least text count (omega (arith, short)) split.1 in
+      let next : prefix_len passes (byte ∷ text) ≡ 1 + prefix_len passes text = ap (λ b. cond b (1 + prefix_len passes text) 0) split.0 in
       omega (arith, rest, next)
 
 -- the first part of a text begins with what stands before the first cut
@@ -88,5 +88,5 @@ module _ (cuts : ℕ → Bool) where
     pub parts-onto : (word text : List ℕ) → list_all within word ≡ true → slice_split cuts (word ++ text) ≡ (word ++ first_of (slice_split cuts text)) ∷ drop 1 (slice_split cuts text)
     parts-onto [] text all = parts-first text
     parts-onto (byte ∷ word) text all =
-        let both = and_parts (within byte) (list_all within word) all in
-        parts-more byte (word ++ text) (uncut byte both.0) ∙ ap (λ parts. (byte ∷ first_of parts) ∷ drop 1 parts) (parts-onto word text both.1)
+        let split = both (within byte) (list_all within word) all in
+        parts-more byte (word ++ text) (uncut byte split.0) ∙ ap (λ parts. (byte ∷ first_of parts) ∷ drop 1 parts) (parts-onto word text split.1)

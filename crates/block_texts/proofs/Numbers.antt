@@ -5,7 +5,7 @@ use Rattle.std.specs.Char.{is_ascii_digit}
 use Rattle.std.specs.List.{list_all, prefix_len, slice_split}
 use Rattle.std.specs.Str.Lines.{strip_carriage_return}
 use Rattle.std.specs.Str.Parse.{digits_value}
-use Rattle.std.proofs.lemmas.Bool.{and_from, and_parts, le-leb, lt-leb}
+use Rattle.counting.proofs.Booleans.{and_from, both, le-leb, lt-leb}
 use Rattle.std.proofs.lemmas.Bool.Decides.{nat_tests}
 use Rattle.std.proofs.lemmas.List.Folds.{length-prefix_len}
 use Rattle.std.proofs.lemmas.List.Splits.{slice_split-cons_yes}
@@ -47,8 +47,8 @@ blank_apart byte blank = grind (arith, nat_tests)
 strip-word : (word line : List ℕ) → list_all is_ascii_digit word ≡ true → strip_carriage_return (word ++ line) ≡ word ++ strip_carriage_return line
 strip-word [] line digits = refl
 strip-word (byte ∷ word) line digits =
-    let both = and_parts (is_ascii_digit byte) (list_all is_ascii_digit word) digits in
-    strip-other byte (word ++ line) (digit_apart byte both.0) ∙ ap (λ l. byte ∷ l) (strip-word word line both.1)
+    let split = both (is_ascii_digit byte) (list_all is_ascii_digit word) digits in
+    strip-other byte (word ++ line) (digit_apart byte split.0) ∙ ap (λ l. byte ∷ l) (strip-word word line split.1)
 
 strip-begins : (line : List ℕ) → begins is_ascii_digit line ≡ false → begins is_ascii_digit (strip_carriage_return line) ≡ false
 strip-begins [] fails = refl

@@ -1,6 +1,6 @@
 -- Sums all of whose terms but one are known, and sums over the places of groups.
 use Rattle.std.proofs.Common.{List, add-suc, ap, arith, inl, inr, length, suc, zero, ℕ, ◌*◌, ◌+◌, ◌<◌, ◌==◌, ◌∙◌, ◌≡◌, ◌≢◌}
-use Rattle.std.proofs.lemmas.Bool.{cases_eq, eq-eqb, eqb-true}
+use Rattle.counting.proofs.Booleans.{cases_eq, eq-eqb, eqb-true}
 use Rattle.std.specs.List.{sum_by}
 use Rattle.std.specs.Prelude.{All}
 use Rattle.counting.proofs.Counts.{one-false, one-true, sum_below-const, sum_below-same}

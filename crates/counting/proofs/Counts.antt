@@ -1,6 +1,6 @@
 -- Sums over the numbers below a bound, and counts as such sums.
 use Rattle.std.proofs.Common.{Bool, List, [], add-one, ap, arith, false, inl, inr, refl, suc, sym, true, zero, ℕ, ◌&&◌, ◌||◌, ◌*◌, ◌++◌, ◌+◌, ◌<◌, ◌==◌, ◌∙◌, ◌≡◌, ◌≢◌, ◌≤◌, ◌⊎◌}
-use Rattle.std.proofs.lemmas.Bool.{cases_eq, eq-eqb, eqb-true}
+use Rattle.counting.proofs.Booleans.{cases_eq, eq-eqb, eqb-true}
 use Rattle.std.proofs.lemmas.Bool.Decides.{nat_tests}
 use Rattle.counting.specs.Sums.{join_below, one, sum_below}
 
@@ -59,6 +59,11 @@ unfolding one
 one_is true = inl (refl, refl)
 one_is false = inr (refl, refl)
 
+pub one-most : (b : Bool) → one b ≤ 1
+unfolding one
+one-most true = omega arith
+one-most false = omega arith
+
 pub one-true : (b : Bool) → b ≡ true → one b ≡ 1
 unfolding one
 one-true true e = refl
@@ -102,16 +107,6 @@ grid_one n m a b p l k e u = sum_below-at n a (λ x. sum_below m (λ y. one (p x
 pub grid_none : (n m : ℕ) (p : ℕ → ℕ → Bool) → ((x y : ℕ) → x < n → y < m → p x y ≡ true → ⊥) → sum_below n (λ x. sum_below m (λ y. one (p x y))) ≡ 0
 grid_none n m p none = sum_below-zero n (λ x. sum_below m (λ y. one (p x y))) (λ x i. count_none m (λ y. p x y) (λ y j. none x y i j))
 
-pub both : (a b : Bool) → (a && b) ≡ true → (a ≡ true) × (b ≡ true)
-both true b e = (refl, e)
-both false b e = cc
-
-pub both_equal : (x y a b : ℕ) → ((x == a) && (y == b)) ≡ true → (x ≡ a) × (y ≡ b)
-both_equal x y a b h = grind (arith, nat_tests)
-
-pub both_equal-from : (x y a b : ℕ) → x ≡ a → y ≡ b → ((x == a) && (y == b)) ≡ true
-both_equal-from x y a b e f = grind (arith, nat_tests)
-
 -- a loop's step: one more list, and one more element
 pub join_below_more : {X : Type 0} (n : ℕ) (f : ℕ → List X) → join_below (n + 1) f ≡ join_below n f ++ f n
 unfolding join_below
@@ -120,29 +115,3 @@ join_below_more n f = rw add-one refl
 pub join_below_none : {X : Type 0} (f : ℕ → List X) → join_below 0 f ≡ []
 unfolding join_below
 join_below_none f = refl
-
-pub and_swap : (p q r s : Bool) → ((p && q) && (r && s)) ≡ ((p && r) && (q && s))
-and_swap true true r s = refl
-and_swap true false true s = refl
-and_swap true false false s = refl
-and_swap false q r s = refl
-
-pub and_turn : (p q : Bool) → (p && q) ≡ (q && p)
-and_turn true true = refl
-and_turn true false = refl
-and_turn false true = refl
-and_turn false false = refl
-
-pub or_turn : (p q r : Bool) → (p || (q || r)) ≡ (q || (p || r))
-or_turn true true r = refl
-or_turn true false r = refl
-or_turn false true r = refl
-or_turn false false r = refl
-
-pub bool_same : (p q : Bool) → (p ≡ true → q ≡ true) → (q ≡ true → p ≡ true) → p ≡ q
-bool_same true q f g = sym (f refl)
-bool_same false true f g = g refl
-bool_same false false f g = refl
-
-pub eqb-turn : (x y : ℕ) → (x == y) ≡ (y == x)
-eqb-turn x y = bool_same _ _ (λ e. eq-eqb y x (sym (eqb-true x y e))) (λ e. eq-eqb x y (sym (eqb-true y x e)))

@@ -1,7 +1,7 @@
 -- Sums over two numbers, and tests on them with two solutions.
 use Rattle.std.proofs.Common.{Bool, ap₂, false, inl, inr, refl, true, ℕ, ◌&&◌, ◌+◌, ◌<◌, ◌==◌, ◌∙◌, ◌≡◌, ◌≢◌, ◌⊎◌, arith}
-use Rattle.std.proofs.lemmas.Bool.{false≢true}
-use Rattle.counting.proofs.Counts.{both_equal, both_equal-from, grid_one, sum_below-add, sum_below-same}
+use Rattle.counting.proofs.Booleans.{both_equal, both_equal-from, false≢true}
+use Rattle.counting.proofs.Counts.{grid_one, sum_below-add, sum_below-same}
 use Rattle.counting.specs.Sums.{one, sum_below}
 
 -- the sum of f x y over x < n and y < m

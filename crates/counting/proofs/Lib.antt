@@ -5,6 +5,7 @@ pub mod Sorting
 pub mod Residues
 pub mod OnePlace
 pub mod Grids
+pub mod Booleans
 pub mod ButOne
 pub mod Squares
 pub mod Totals

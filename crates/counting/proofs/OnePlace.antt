@@ -1,6 +1,6 @@
 -- Lists in which exactly one place passes a test, and filters.
 use Rattle.std.proofs.Common.{Bool, List, [], ap, ap₂, arith, false, get_or, inl, inr, length, not, refl, suc, sym, true, zero, ℕ, ◌*◌, ◌+◌, ◌<◌, ◌∙◌, ◌∷◌, ◌≡◌, ◌≢◌, ◌≤◌}
-use Rattle.std.proofs.lemmas.Bool.{cases_lt, cases_order, cond_both, false≢true}
+use Rattle.counting.proofs.Booleans.{cases_lt, cases_order, cond_both, false≢true}
 use Rattle.std.proofs.lemmas.List.Sums.{fails_before_first, get_or-le-sum_by, sum_by-cons}
 use Rattle.std.specs.List.{position_or_len, sum_by}
 use Rattle.std.specs.Prelude.{filter}

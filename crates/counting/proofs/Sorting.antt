@@ -1,6 +1,6 @@
 -- A list has one sorted form, and a sort keeps sums and what holds of each element.
 use Rattle.std.proofs.Common.{Bool, List, [], ap, ap₂, arith, false, get_or, inl, inr, length, refl, subst, suc, sym, true, ℕ, ◌+◌, ◌<◌, ◌∙◌, ◌∷◌, ◌≡◌}
-use Rattle.std.proofs.lemmas.Bool.{cases_Bool, cond_both, false≢true, le-leb, leb-false, leb-true}
+use Rattle.counting.proofs.Booleans.{cases_Bool, cond_both, false≢true, le-leb, leb-false, leb-true}
 use Rattle.std.proofs.lemmas.Bool.Decides.{nat_tests}
 use Rattle.std.proofs.lemmas.List.Sorted.{sum_by-IsPermutation}
 use Rattle.std.proofs.lemmas.List.Sums.{sum_by-cons}

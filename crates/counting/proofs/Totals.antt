@@ -1,9 +1,9 @@
 -- Sums over the numbers below a bound: over lists, by places, over renamed numbers; terms that a total tells.
 use Rattle.std.proofs.Common.{Bool, [], ap, arith, false, inl, inr, refl, suc, sym, true, zero, ℕ, ◌*◌, ◌+◌, ◌<◌, ◌==◌, ◌∙◌, ◌∷◌, ◌≡◌, ◌≤◌}
-use Rattle.std.proofs.lemmas.Bool.{cases_eq, cases_lt, eq-eqb, eqb-true}
+use Rattle.counting.proofs.Booleans.{cases_eq, cases_lt, eq-eqb, eqb-true}
 use Rattle.std.specs.List.{sum_by}
 use Rattle.counting.proofs.ButOne.{sum_below-plus}
-use Rattle.counting.proofs.Counts.{count_none, count_one, one-false, one-true, sum_below-at, sum_below-const, sum_below-mul, sum_below-same, sum_below-turn}
+use Rattle.counting.proofs.Counts.{count_none, count_one, one-false, one-most, one-true, sum_below-at, sum_below-const, sum_below-le, sum_below-mul, sum_below-same, sum_below-turn}
 use Rattle.counting.proofs.Lists.{sum_by-join_below, sum_by-single}
 use Rattle.counting.specs.Sums.{list_below, one, sum_below}
 
@@ -28,11 +28,6 @@ grid_rows e (suc f) g = omega (
 -- a sum over the numbers below e * f, by their places i + e * j
 pub sum_below-grid : (e f : ℕ) (g : ℕ → ℕ) → sum_below e (λ i. sum_below f (λ j. g (i + e * j))) ≡ sum_below (e * f) g
 sum_below-grid e f g = sum_below-turn e f (λ i j. g (i + e * j)) ∙ grid_rows e f g
-
-pub sum_below-le : (n : ℕ) (f g : ℕ → ℕ) → ((i : ℕ) → i < n → f i ≤ g i) → sum_below n f ≤ sum_below n g
-unfolding sum_below
-sum_below-le zero f g h = omega arith
-sum_below-le (suc n) f g h = omega (arith, sum_below-le n f g (λ i l. h i (omega arith)), h n (omega arith))
 
 -- no term is more than the sum
 pub sum_below-term : (n i : ℕ) (f : ℕ → ℕ) → i < n → f i ≤ sum_below n f
@@ -73,11 +68,6 @@ each_most (suc n) c f h t i l =
       | inl e ↦ omega (arith, ap f e, h n (omega arith))
       | inr d ↦ each_most n c f (λ i l. h i (omega arith)) (omega (arith, h n (omega arith))) i (omega arith)
     ]
-
-pub one-most : (b : Bool) → one b ≤ 1
-unfolding one
-one-most true = omega arith
-one-most false = omega arith
 
 pub one_passes : (b : Bool) → 0 < one b → b ≡ true
 unfolding one

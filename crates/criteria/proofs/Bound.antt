@@ -3,10 +3,10 @@ use Rattle.std.proofs.Common.{◌≡◌, ℕ, zero, suc, ◌+◌, ◌*◌, ◌<�
 use Rattle.std.specs.Prelude.{All}
 use Rattle.std.specs.List.{sum_by}
 use Rattle.std.proofs.Math.Nat.{mul-le-mul_left}
-use Rattle.std.proofs.lemmas.Bool.{cases_eq, cases_lt, cases_order, cases_Bool, eq-eqb, eqb-true}
+use Rattle.counting.proofs.Booleans.{both_equal, both_equal-from, cases_Bool, cases_eq, cases_lt, cases_order, eq-eqb, eqb-true}
 use Rattle.std.proofs.lemmas.List.Sums.{sum_by-cons, sum_by-le}
 use Rattle.counting.specs.Sums.{one, sum_below}
-use Rattle.counting.proofs.Counts.{one-true, one-false, sum_below-same, sum_below-const, sum_below-zero, count_one, both_equal, both_equal-from}
+use Rattle.counting.proofs.Counts.{one-true, one-false, sum_below-same, sum_below-const, sum_below-zero, count_one}
 use Rattle.counting.proofs.Lists.{sum_by-agree, sum_by-sum_below}
 use Rattle.counting.proofs.OnePlace.{two_places}
 use Rattle.design_base.specs.Arrays.{agree, IsRow, IsOa}

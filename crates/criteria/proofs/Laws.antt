@@ -1,7 +1,7 @@
 -- Where a design stands, no criterion applies.
 use Rattle.std.proofs.Common.{List, [], ap, arith, cond, false, length, refl, sym, true, ℕ, ◌%◌, ◌&&◌, ◌*◌, ◌+◌, ◌-◌, ◌/◌, ◌<◌, ◌==◌, ◌∙◌, ◌∷◌, ◌≡◌, ◌≤◌, None, Option, Some, subst}
 use Rattle.std.proofs.Math.Nat.{le-div_iff_mul-le, mul-le-mul_right, mul-mod_left, mul-pos}
-use Rattle.std.proofs.lemmas.Bool.{eq-eqb, false≢true}
+use Rattle.counting.proofs.Booleans.{eq-eqb, false≢true, le-ltb}
 use Rattle.std.proofs.lemmas.Bool.Decides.{nat_tests}
 use Rattle.std.specs.List.{AllByRecursion}
 use Rattle.std.specs.Prelude.{IsSome, find, nat_lt, not, option_map}
@@ -34,9 +34,6 @@ Fails row = row.applies ≡ false
 divided : (d q n : ℕ) → q * d ≡ n → not (divides d n) ≡ false
 divided d q n e = ap not (eq-eqb (n % d) 0 (ap (λ t. t % d) (sym e) ∙ mul-mod_left q d))
 
-not_less : (a b : ℕ) → b ≤ a → nat_lt a b ≡ false
-not_less a b h = grind (arith, nat_tests)
-
 not_both : (a b c d : ℕ) → (a < b → d ≤ c) → (nat_lt a b && nat_lt c d) ≡ false
 not_both a b c d h = grind (arith, nat_tests)
 
@@ -64,7 +61,7 @@ td_fails k n B two design = (let most = groups_bound k n B two in bounded k n (�
 gdd_fails : (k g u : ℕ) (B : List (List ℕ)) → 2 ≤ k → 1 ≤ g → 2 ≤ u → IsGdd B k g u → AllByRecursion Fails (reasons (Gdd k g u))
 unfolding reasons
 gdd_fails k g u B two some more design = (
-  not_less u k (few_groups B k g u design some more),
+  le-ltb u k (few_groups B k g u design some more),
   (
     not_all u k g (g + 1) k (λ same big. groups_bound k g B two big (subst (λ t. IsGdd B k g t) same design)),
     (
@@ -93,7 +90,7 @@ unfolding reasons
 pbd_fails v s B some two design =
     let cut = parts B v s design (let h : 1 ≤ s = omega arith in h) 0 some in
     let fits : replication B 0 ≤ (v - 1) / (s - 1) = (le-div_iff_mul-le (let h : 0 < s - 1 = omega arith in h)).1 cut.0 in
-    (not_less (reach v s) (v - 1) (omega (arith, cut.1, mul-le-mul_right s fits)), tt)
+    (le-ltb (reach v s) (v - 1) (omega (arith, cut.1, mul-le-mul_right s fits)), tt)
 
 none_applies : (q : Query) (B : List (List ℕ)) → in_bounds q ≡ true → Meets q B → AllByRecursion Fails (reasons q)
 unfolding in_bounds

@@ -7,7 +7,7 @@ use Rattle.std.specs.List.{AllByRecursion, list_all, slice_split}
 use Rattle.std.proofs.lemmas.Bool.Decides.{nat_tests}
 use Rattle.std.proofs.lemmas.Fmt.{digits_decimal}
 use Rattle.std.proofs.lemmas.List.Splits.{slice_split-cons_yes, slice_split-cons_no}
-use Rattle.counting.proofs.Counts.{both}
+use Rattle.counting.proofs.Booleans.{both}
 use Rattle.counting.specs.Search.{◌<=◌}
 use Rattle.design_base.specs.Limits.{HasFewDigits}
 use Rattle.design_base.specs.declared.query.Group.TheVariants.{Cyclic, Field}

@@ -10,7 +10,7 @@ use Rattle.std.proofs.lemmas.Bool.Decides.{nat_tests}
 use Rattle.std.proofs.lemmas.Fmt.{decimal-digits_value}
 use Rattle.std.proofs.lemmas.Slice.Eq.{bytes_eq-Decides}
 use Rattle.std.proofs.lemmas.Str.Parse.{digits_value_short}
-use Rattle.counting.proofs.Counts.{both}
+use Rattle.counting.proofs.Booleans.{both}
 use Rattle.counting.specs.Search.{◌<=◌}
 use Rattle.design_base.specs.declared.limits.TheConstants.{PARAMETER_MAX}
 use Rattle.design_base.specs.declared.query.Group.TheVariants.{Cyclic, Field}

@@ -8,7 +8,7 @@ use Rattle.std.specs.List.{AllByRecursion, flat_map, list_all}
 use Rattle.std.proofs.lemmas.Fmt.{decimal_digit, digits_decimal}
 use Rattle.std.proofs.lemmas.Bool.Decides.{nat_tests}
 use Rattle.std.proofs.lemmas.List.Elements.{recursion_from_All}
-use Rattle.counting.proofs.Counts.{both}
+use Rattle.counting.proofs.Booleans.{both}
 use Rattle.counting.specs.Search.{◌<=◌}
 use Rattle.design_base.specs.Limits.{HasFewDigits}
 use Rattle.design_base.specs.declared.limits.TheConstants.{DERIVATION_MAX}

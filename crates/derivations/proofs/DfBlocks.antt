@@ -1,6 +1,6 @@
 -- The rules of difference families: a candidate has what its construction needs, and the construction gives the family.
 use Rattle.std.proofs.Common.{◌≡◌, ℕ, ◌∙◌, true, List, [], ◌∷◌, length, refl, sym}
-use Rattle.counting.proofs.Counts.{both}
+use Rattle.counting.proofs.Booleans.{both}
 use Rattle.design_base.specs.Canonical.{canonical}
 use Rattle.design_base.specs.Limits.{in_bounds, within}
 use Rattle.design_base.specs.Meets.{Meets}

@@ -2,9 +2,8 @@
 -- adds a lemma, and a case to `direct_meets`.
 use Rattle.std.proofs.Common.{◌≡◌, ◌≢◌, ℕ, ◌+◌, ◌-◌, ◌/◌, ◌%◌, ◌^◌, ◌≤◌, ◌==◌, ◌&&◌, not, true, List, [], arith, subst, sym}
 use Rattle.std.specs.Prelude.{nat_lt}
-use Rattle.std.proofs.lemmas.Bool.{eqb-true, leb-true}
+use Rattle.counting.proofs.Booleans.{both, eqb-true, leb-true}
 use Rattle.std.proofs.lemmas.Bool.Decides.{nat_tests}
-use Rattle.counting.proofs.Counts.{both}
 use Rattle.counting.specs.Division.{divides}
 use Rattle.counting.specs.Search.{◌<=◌}
 use Rattle.design_base.specs.Blocks.{IsBibd}
@@ -162,12 +161,13 @@ module _ (v k l : ℕ) (bounds : in_bounds (Bibd v k l) ≡ true) where
       let in_range = bibd_bounds v k l bounds in
       let tested = (both (k == q + 1 && l == 1 && v == q ^ 3 + 1 && 2 <= q && has_field (q ^ 2) && passes_check (Bibd v k l) (unital_blocks q)) _ (both (within (k - 1) (k - 1) q) _ e).1).0 in
       let listed = (both (k == q + 1 && l == 1 && v == q ^ 3 + 1 && 2 <= q && has_field (q ^ 2)) (passes_check (Bibd v k l) (unital_blocks q)) tested).0 in
-      let t = both (k == q + 1 && l == 1 && v == q ^ 3 + 1) (2 <= q) (both (k == q + 1 && l == 1 && v == q ^ 3 + 1 && 2 <= q) (has_field (q ^ 2)) listed).0 in
+      let order = both (k == q + 1 && l == 1 && v == q ^ 3 + 1 && 2 <= q) (has_field (q ^ 2)) listed in
+      let t = both (k == q + 1 && l == 1 && v == q ^ 3 + 1) (2 <= q) order.0 in
       let all = both (k == q + 1 && l == 1) (v == q ^ 3 + 1) t.0 in
       let sizes = both (k == q + 1) (l == 1) all.0 in
       let points : q ^ 3 + 1 ≡ v = sym (eqb-true v (q ^ 3 + 1) all.1) in
       taken [] (CanBuildBibd v k l Unital q b c d) I meet (
-        record { order = leb-true 2 q t.1; points = omega (arith, points, in_range.points) },
+        record { order = leb-true 2 q t.1; listed = order.1; points = omega (arith, points, in_range.points) },
         record { all = points; block = sym (eqb-true k (q + 1) sizes.0); once = sym (eqb-true l 1 sizes.1) },
       )
 

@@ -1,5 +1,6 @@
 -- Marks, one number after another.
 use Rattle.std.proofs.Common.{◌≡◌, ◌≢◌, ℕ, ◌+◌, ◌<◌, Bool, true, false, ◌||◌, List, [], ◌∷◌, ◌++◌, arith, refl, ap, sym, ◌∙◌, length, get_or, drop, add-one, drop-cons}
+use Rattle.counting.proofs.Booleans.{or_turn}
 use Rattle.std.specs.Prelude.{slice_index_or, nat_eq}
 use Rattle.std.proofs.Math.ListN.{set, length-set}
 use Rattle.std.proofs.Math.Seq.{drop-length}
@@ -28,16 +29,10 @@ among_cons j x xs = split (nat_eq j x)
     split true = refl
     split false = refl
 
-or_swap : (a b c : Bool) → (a || (b || c)) ≡ (b || (a || c))
-or_swap true true c = refl
-or_swap true false c = refl
-or_swap false true c = refl
-or_swap false false c = refl
-
 pub among_moved : (j x : ℕ) (xs ys : List ℕ) → is_among j (x ∷ xs ++ ys) ≡ is_among j (xs ++ x ∷ ys)
 among_moved j x [] ys = refl
 among_moved j x (y ∷ xs) ys =
-    among_cons j x (y ∷ xs ++ ys) ∙ ap (λ b. nat_eq j x || b) (among_cons j y (xs ++ ys)) ∙ or_swap (nat_eq j x) (nat_eq j y) (is_among j (xs ++ ys))
+    among_cons j x (y ∷ xs ++ ys) ∙ ap (λ b. nat_eq j x || b) (among_cons j y (xs ++ ys)) ∙ or_turn (nat_eq j x) (nat_eq j y) (is_among j (xs ++ ys))
     ∙ ap (λ b. nat_eq j y || b) (sym (among_cons j x (xs ++ ys)) ∙ among_moved j x xs ys) ∙ sym (among_cons j y (xs ++ x ∷ ys))
 
 pub marks_one : (acc : List ℕ) (marks : List Bool) (x : ℕ) → x < length marks → Marks acc marks → Marks (x ∷ acc) (set marks x true)

@@ -1,6 +1,6 @@
 -- Each candidate makes, of block lists that meet its premises, a block list that meets its question.
 use Rattle.std.proofs.Common.{◌≡◌, ℕ, List, true}
-use Rattle.counting.proofs.Counts.{both}
+use Rattle.counting.proofs.Booleans.{both}
 use Rattle.design_base.specs.Limits.{in_bounds}
 use Rattle.design_base.specs.Meets.{Meets}
 use Rattle.design_base.specs.Rules.{kind_of, serves}

@@ -1,9 +1,9 @@
 -- The rules of pairwise balanced designs: a candidate has what its construction needs, and the construction gives the design. A new rule adds
 -- a lemma, and a case to `pbd_can_build` and to `pbd_meets`.
 use Rattle.std.proofs.Common.{◌≡◌, ℕ, ◌+◌, ◌-◌, ◌*◌, ◌/◌, ◌≤◌, ◌⊎◌, inl, inr, ◌==◌, ◌&&◌, ◌||◌, Bool, true, false, if◌then◌else◌, List, [], ◌∷◌, None, Some, arith, refl, subst, sym}
-use Rattle.std.proofs.lemmas.Bool.{cases_eq, leb-true}
+use Rattle.std.proofs.Math.Nat.{mul_comm}
+use Rattle.counting.proofs.Booleans.{both, cases_eq, leb-true}
 use Rattle.std.proofs.lemmas.Bool.Decides.{nat_tests}
-use Rattle.counting.proofs.Counts.{both}
 use Rattle.counting.specs.Search.{◌<=◌}
 use Rattle.design_base.specs.Blocks.{IsPbd}
 use Rattle.design_base.specs.Canonical.{canonical}
@@ -164,9 +164,6 @@ pbd_meets v s Truncate t u c d (T ∷ P ∷ Q ∷ []) can =
     (truncate_is_pbd s t u T P (Some Q) (omega (arith, can.0.some)) (omega (arith, can.0.two)) can.0.fits can.0.td can.0.group can.0.last)
 pbd_meets v s Tdfill t b c d (T ∷ P ∷ []) can = subst (λ n. IsPbd (canonical (fill t s T P)) n s) can.1 (td_fill_is_pbd s t T P can.0.some can.0.td can.0.group)
 pbd_meets v s Tdfill1 t c p d (T ∷ P ∷ []) can =
-    let points : t * c + 1 ≡ v = omega (arith, can.1, turned t c) in
+    let points : t * c + 1 ≡ v = omega (arith, can.1, mul_comm t c) in
     subst (λ n. IsPbd (canonical (fill_with_point t c T P)) n s) points (td_fill_with_point_is_pbd s t c T P can.0.some can.0.groups can.0.td can.0.group)
-  where
-    turned : (a b : ℕ) → a * b ≡ b * a
-    turned a b = omega arith
 pbd_meets v s r a b c d I can = absurd can

@@ -3,9 +3,8 @@ use Rattle.std.proofs.Common.{◌≡◌, ◌≢◌, ℕ, zero, suc, ◌+◌, ◌
 use Rattle.std.specs.Prelude.{slice_index_or, Option, Some, None, All}
 use Rattle.std.specs.List.{list_all}
 use Rattle.std.proofs.Math.Seq.{get_or-append_seam, take-length}
-use Rattle.std.proofs.lemmas.Bool.{cases_lt}
+use Rattle.counting.proofs.Booleans.{both, cases_lt, false_from_ne_true}
 use Rattle.std.proofs.lemmas.List.{append-nil, drop_all, get_or_append_left}
-use Rattle.counting.proofs.Counts.{both}
 use Rattle.counting.specs.Search.{is_among}
 use Rattle.design_base.specs.declared.query.Query.{Query}
 use Rattle.design_base.specs.Meets.{Meets}
@@ -122,10 +121,6 @@ running_goes_on D k l kept kept' B h e r size same b m =
           snoc_last (Option (List (List ℕ))) kept' (Some B) None j (q ∙ sym t.size) ∙ ap Some (sym (snoc_last (List (List ℕ)) r.lists B [] j q)))
     ]
 
-not_in : (b : Bool) → (b ≡ true → ⊥) → b ≡ false
-not_in true n = absurd (n refl)
-not_in false n = refl
-
 pub running_ends : (D : List Line) (k : ℕ) (kept : List (Option (List (List ℕ)))) → k ≡ length D → 0 < length D → Running D k kept
     → (length kept ≡ length D) × (slice_index_or kept (length D - 1) None ≡ Some (replayed D))
 unfolding lists_from replayed
@@ -135,7 +130,7 @@ running_ends D k kept e h r =
     let a : r.lists ≡ lists_from [] D = sym (r.rest ∙ ap (λ ys. lists_from r.lists ys) d) in
     let z : length D - 1 + 1 ≡ k = omega arith in (
       r.left.size ∙ n ∙ e,
-      r.left.held (length D - 1) (omega arith) (ap (λ j. is_among j r.named) z ∙ not_in (is_among k r.named) (λ i. omega (arith, r.below k i)))
+      r.left.held (length D - 1) (omega arith) (ap (λ j. is_among j r.named) z ∙ false_from_ne_true (is_among k r.named) (λ i. omega (arith, r.below k i)))
           ∙ ap (λ (Ls : List (List (List ℕ))). Some (slice_index_or Ls (length D - 1) [])) a,
     )
 

@@ -1,7 +1,7 @@
 -- Codes are read back, and numbers lead to their rules.
 use Rattle.std.proofs.Common.{◌≡◌, ℕ, zero, suc, ◌+◌, ◌*◌, ◌/◌, ◌%◌, ◌^◌, ◌<◌, ◌≤◌, ◌==◌, ◌⊎◌, inl, inr, Bool, true, false, ◌&&◌, List, [], ◌∷◌, drop, length, find, arith, refl, sym, ap, ◌∙◌, cond}
 use Rattle.std.specs.Prelude.{Option, Some, None, IfSome, option_and_then}
-use Rattle.std.proofs.lemmas.Bool.{eq-eqb}
+use Rattle.counting.proofs.Booleans.{both, eq-eqb}
 use Rattle.std.proofs.lemmas.Bool.Decides.{nat_tests}
 use Rattle.design_base.specs.declared.limits.TheConstants.{PARAMETER_MAX}
 use Rattle.design_base.specs.declared.rule.Rule.{Rule}
@@ -26,10 +26,6 @@ rule_back r = refl
 abbrev are_numbered : ℕ → List Rule → Bool
 are_numbered n [] = true
 are_numbered n (r ∷ rs) = number_of_rule r == n + 1 && are_numbered (n + 1) rs
-
-both : (a b : Bool) → (a && b) ≡ true → (a ≡ true) × (b ≡ true)
-both true b e = (refl, e)
-both false b e = cc
 
 number_at : (n i : ℕ) (rs ys : List Rule) (r : Rule) → are_numbered n rs ≡ true → drop i rs ≡ r ∷ ys → number_of_rule r ≡ n + i + 1
 number_at n zero [] ys r h e = absurd (cc)

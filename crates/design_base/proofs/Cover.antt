@@ -1,11 +1,11 @@
 -- How cover is counted.
 use Rattle.std.proofs.Common.{List, [], add-zero, ap, arith, cond, false, inl, inr, refl, suc, sym, true, zero, ℕ, ◌&&◌, ◌++◌, ◌+◌, ◌<◌, ◌==◌, ◌||◌, ◌∙◌, ◌∷◌, ◌≡◌, ◌⊎◌}
-use Rattle.std.proofs.lemmas.Bool.{cases_eq, false≢true, or_cases, or_left, or_right}
+use Rattle.counting.proofs.Booleans.{and_turn, cases_eq, false≢true, or_cases, or_left, or_right}
 use Rattle.std.proofs.lemmas.Bool.Decides.{nat_tests}
 use Rattle.std.proofs.lemmas.List.Folds.{list_any-append}
 use Rattle.std.proofs.lemmas.List.Sums.{sum_by-append, sum_by-cons}
 use Rattle.std.specs.List.{sum_by}
-use Rattle.counting.proofs.Counts.{and_turn, count_pairs}
+use Rattle.counting.proofs.Counts.{count_pairs}
 use Rattle.counting.specs.Sums.{join_below, list_below, one, sum_below}
 use Rattle.design_base.specs.Blocks.{cover, holds}
 

@@ -1,7 +1,7 @@
 -- A transversal design holds one point of each group in each block, so it is an orthogonal array.
 use Rattle.std.proofs.Common.{List, [], add-one, ap, arith, cond, get_or, length, map, suc, sym, zero, ℕ, ◌%◌, ◌*◌, ◌+◌, ◌-◌, ◌/◌, ◌<◌, ◌∙◌, ◌≡◌, ◌≢◌, ◌≤◌}
 use Rattle.std.proofs.Math.Nat.{div-mul-le_self, mod-lt}
-use Rattle.std.proofs.lemmas.Bool.{eq-eqb}
+use Rattle.counting.proofs.Booleans.{eq-eqb}
 use Rattle.std.proofs.lemmas.Grind.{same_number_lists}
 use Rattle.std.proofs.lemmas.List.{ext_get_or, get_or-map, length-map}
 use Rattle.std.proofs.lemmas.List.Elements.{All-map, All-weaker}

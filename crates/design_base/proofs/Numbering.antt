@@ -1,7 +1,7 @@
 -- Questions in bounds and their numbers lead to each other.
 use Rattle.std.proofs.Common.{◌≡◌, ℕ, zero, suc, ◌+◌, ◌-◌, ◌*◌, ◌/◌, ◌%◌, ◌<◌, ◌≤◌, ◌⊎◌, inl, inr, Bool, true, false, List, [], ◌∷◌, arith, refl, ap, sym, ◌∙◌, cond}
 use Rattle.std.specs.Prelude.{Option, Some, None, IfSome, option_and_then}
-use Rattle.std.proofs.lemmas.Bool.{lt-ltb, le-ltb, cases_lt}
+use Rattle.counting.proofs.Booleans.{cases_lt, le-ltb, lt-ltb}
 use Rattle.std.proofs.Math.Path.{ap₂}
 use Rattle.std.proofs.Math.Nat.{mul-le-mul_left, mul-le-mul_right}
 use Rattle.design_base.specs.declared.limits.TheConstants.{COVER_MAX, GDD_K_MAX, PBD_S_MAX, POINTS_MAX, TD_N_MAX}
@@ -35,7 +35,7 @@ three_alike : (f : ℕ → ℕ → ℕ → Query) (a b c x y z : ℕ) → a ≡ 
 three_alike f a b c x y z p q r = ap (λ t. f t b c) p ∙ ap (λ t. f x t c) q ∙ ap (λ t. f x y t) r
 
 -- the digits of a place
-middle_digits : (a b c : ℕ) → b < 127 → c < 6 → (((a * 127 + b) * 6 + c) / 6 ≡ a * 127 + b) × (((a * 127 + b) * 6 + c) % 6 ≡ c) × ((a * 127 + b) / 127 ≡ a) × ((a * 127 + b) % 127 ≡ b)
+middle_digits : (a b c : ℕ) → b < (POINTS_MAX - 1) → c < COVER_MAX → (((a * (POINTS_MAX - 1) + b) * COVER_MAX + c) / COVER_MAX ≡ a * (POINTS_MAX - 1) + b) × (((a * (POINTS_MAX - 1) + b) * COVER_MAX + c) % COVER_MAX ≡ c) × ((a * (POINTS_MAX - 1) + b) / (POINTS_MAX - 1) ≡ a) × ((a * (POINTS_MAX - 1) + b) % (POINTS_MAX - 1) ≡ b)
 middle_digits a b c hb hc = (omega arith, omega arith, omega arith, omega arith)
 
 -- the kinds behind a kind
@@ -74,11 +74,11 @@ at_pbd x h =
 triple_back : (make : ℕ → ℕ → ℕ → Query) (v k l : ℕ) → 2 ≤ k → k ≤ v → v ≤ POINTS_MAX → 1 ≤ l → l ≤ COVER_MAX → triple_at make (triple_number v k l) ≡ make v k l
 triple_back make v k l hk hv hp hl hc =
     let m = middle_digits (v - 2) (k - 2) (l - 1) (omega arith) (omega arith) in
-    let p : triple_number v k l / 6 ≡ (v - 2) * 127 + (k - 2) = m.0 in
-    let q : triple_number v k l / 6 / 127 ≡ v - 2 = ap (λ t. t / 127) p ∙ m.2 in
-    let r : triple_number v k l / 6 % 127 ≡ k - 2 = ap (λ t. t % 127) p ∙ m.3 in
-    let s : triple_number v k l % 6 ≡ l - 1 = m.1 in
-    three_alike make (triple_number v k l / 6 / 127 + 2) (triple_number v k l / 6 % 127 + 2) (triple_number v k l % 6 + 1) v k l (omega arith) (omega arith) (omega arith)
+    let p : triple_number v k l / COVER_MAX ≡ (v - 2) * (POINTS_MAX - 1) + (k - 2) = m.0 in
+    let q : triple_number v k l / COVER_MAX / (POINTS_MAX - 1) ≡ v - 2 = ap (λ t. t / (POINTS_MAX - 1)) p ∙ m.2 in
+    let r : triple_number v k l / COVER_MAX % (POINTS_MAX - 1) ≡ k - 2 = ap (λ t. t % (POINTS_MAX - 1)) p ∙ m.3 in
+    let s : triple_number v k l % COVER_MAX ≡ l - 1 = m.1 in
+    three_alike make (triple_number v k l / COVER_MAX / (POINTS_MAX - 1) + 2) (triple_number v k l / COVER_MAX % (POINTS_MAX - 1) + 2) (triple_number v k l % COVER_MAX + 1) v k l (omega arith) (omega arith) (omega arith)
 
 triple_small : (v k l : ℕ) → 2 ≤ k → k ≤ v → v ≤ POINTS_MAX → 1 ≤ l → l ≤ COVER_MAX → triple_number v k l < bibd_cells
 triple_small v k l hk hv hp hl hc = omega arith
@@ -105,18 +105,18 @@ gdd_small g u lg lu h =
     let q : 1 * u ≤ g * u = mul-le-mul_right u lg in
     (omega arith, omega arith)
 
-gdd_digits : (a b c : ℕ) → b < 64 → c < 127 → (((a * 64 + b) * 127 + c) / 127 ≡ a * 64 + b) × (((a * 64 + b) * 127 + c) % 127 ≡ c) × ((a * 64 + b) / 64 ≡ a) × ((a * 64 + b) % 64 ≡ b)
+gdd_digits : (a b c : ℕ) → b < (POINTS_MAX / 2) → c < (POINTS_MAX - 1) → (((a * (POINTS_MAX / 2) + b) * (POINTS_MAX - 1) + c) / (POINTS_MAX - 1) ≡ a * (POINTS_MAX / 2) + b) × (((a * (POINTS_MAX / 2) + b) * (POINTS_MAX - 1) + c) % (POINTS_MAX - 1) ≡ c) × ((a * (POINTS_MAX / 2) + b) / (POINTS_MAX / 2) ≡ a) × ((a * (POINTS_MAX / 2) + b) % (POINTS_MAX / 2) ≡ b)
 gdd_digits a b c hb hc = (omega arith, omega arith, omega arith, omega arith)
 
 gdd_back : (k g u : ℕ) → 2 ≤ k → 1 ≤ g → 2 ≤ u → g * u ≤ POINTS_MAX → gdd_at (gdd_number k g u) ≡ Gdd k g u
 gdd_back k g u hk hg hu h =
     let f = gdd_small g u hg hu h in
     let m = gdd_digits (k - 2) (g - 1) (u - 2) (omega (arith, f)) (omega (arith, f)) in
-    let p : gdd_number k g u / 127 ≡ (k - 2) * 64 + (g - 1) = m.0 in
-    let q : gdd_number k g u / 127 / 64 ≡ k - 2 = ap (λ t. t / 64) p ∙ m.2 in
-    let r : gdd_number k g u / 127 % 64 ≡ g - 1 = ap (λ t. t % 64) p ∙ m.3 in
-    let s : gdd_number k g u % 127 ≡ u - 2 = m.1 in
-    three_alike (λ k g u. Gdd k g u) (gdd_number k g u / 127 / 64 + 2) (gdd_number k g u / 127 % 64 + 1) (gdd_number k g u % 127 + 2) k g u (omega arith) (omega arith) (omega arith)
+    let p : gdd_number k g u / (POINTS_MAX - 1) ≡ (k - 2) * (POINTS_MAX / 2) + (g - 1) = m.0 in
+    let q : gdd_number k g u / (POINTS_MAX - 1) / (POINTS_MAX / 2) ≡ k - 2 = ap (λ t. t / (POINTS_MAX / 2)) p ∙ m.2 in
+    let r : gdd_number k g u / (POINTS_MAX - 1) % (POINTS_MAX / 2) ≡ g - 1 = ap (λ t. t % (POINTS_MAX / 2)) p ∙ m.3 in
+    let s : gdd_number k g u % (POINTS_MAX - 1) ≡ u - 2 = m.1 in
+    three_alike (λ k g u. Gdd k g u) (gdd_number k g u / (POINTS_MAX - 1) / (POINTS_MAX / 2) + 2) (gdd_number k g u / (POINTS_MAX - 1) % (POINTS_MAX / 2) + 1) (gdd_number k g u % (POINTS_MAX - 1) + 2) k g u (omega arith) (omega arith) (omega arith)
 
 pub gdd_within : (k g u : ℕ) → 2 ≤ k → k ≤ GDD_K_MAX → 1 ≤ g → 2 ≤ u → g * u ≤ POINTS_MAX → gdd_number k g u < gdd_cells
 gdd_within k g u hk hn hg hu h = omega (arith, gdd_small g u hg hu h)

@@ -1,9 +1,8 @@
 -- Points of groups: point x of group i is i * n + x.
 use Rattle.std.proofs.Common.{[], ap, ap₂, arith, cond, inl, inr, refl, sym, true, ℕ, ◌%◌, ◌&&◌, ◌*◌, ◌+◌, ◌/◌, ◌<◌, ◌==◌, ◌∙◌, ◌∷◌, ◌≡◌, ◌≢◌, ◌⊎◌}
 use Rattle.std.proofs.Math.Nat.{div-add-mod', div-mul-le_self, mod-lt}
-use Rattle.std.proofs.lemmas.Bool.{cases_order, eq-eqb, eqb-true, ne_eqb}
+use Rattle.counting.proofs.Booleans.{bool_same, both_equal, both_equal-from, cases_order, eq-eqb, eqb-true, ne_eqb}
 use Rattle.std.proofs.lemmas.Nat.{div-mul-add, div_below, le-div, mod-mul-add, mul-add-lt, same_from_place}
-use Rattle.counting.proofs.Counts.{bool_same, both_equal, both_equal-from}
 use Rattle.design_base.proofs.Canonical.{IsPointSet, three_set}
 use Rattle.design_base.proofs.Cover.{holds_three, holds_three-from}
 use Rattle.design_base.specs.Arrays.{place}

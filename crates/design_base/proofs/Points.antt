@@ -1,6 +1,6 @@
 -- The points of a block, counted.
 use Rattle.std.proofs.Common.{Bool, List, [], ap, arith, cond, false, get_or, inl, inr, length, refl, subst, sym, true, ℕ, ◌&&◌, ◌+◌, ◌<◌, ◌==◌, ◌||◌, ◌∙◌, ◌∷◌, ◌≡◌, ◌≢◌}
-use Rattle.std.proofs.lemmas.Bool.{and_from, cond_both, eq-eqb, eqb-false, eqb-true, false≢true, ne_eqb, or_cases, or_parts}
+use Rattle.counting.proofs.Booleans.{and_from, cond_both, eq-eqb, eqb-false, eqb-true, false≢true, ne_eqb, or_cases, or_parts}
 use Rattle.std.proofs.lemmas.List.Folds.{list_any_at}
 use Rattle.std.proofs.lemmas.List.Sums.{get_or-le-sum_by, sum_by-cons}
 use Rattle.std.specs.List.{AllByRecursion, sum_by}

@@ -1,10 +1,10 @@
 -- The blocks of an orthogonal array are a transversal design.
 use Rattle.std.proofs.Common.{Bool, List, ap, arith, cond, get_or, length, refl, sym, ℕ, ◌&&◌, ◌*◌, ◌<◌, ◌==◌, ◌∙◌, ◌≡◌, ◌≢◌, ◌≤◌}
-use Rattle.std.proofs.lemmas.Bool.{eq-eqb, eqb-true}
+use Rattle.counting.proofs.Booleans.{and_turn, bool_same, both_equal, both_equal-from, eq-eqb, eqb-true}
 use Rattle.std.proofs.lemmas.Bool.Decides.{nat_tests}
 use Rattle.std.specs.List.{sum_by}
 use Rattle.std.specs.Prelude.{All}
-use Rattle.counting.proofs.Counts.{and_turn, bool_same, both_equal, both_equal-from, grid_one, sum_below-const, sum_below-same}
+use Rattle.counting.proofs.Counts.{grid_one, sum_below-const, sum_below-same}
 use Rattle.counting.proofs.Lists.{All-map_of, each_all, sum_by-agree, sum_by-length, sum_by-map, sum_by-same, sum_by-sum_below, sum_by-zero}
 use Rattle.counting.proofs.Ranges.{each_below, length-list_below}
 use Rattle.counting.specs.Sums.{one, sum_below}

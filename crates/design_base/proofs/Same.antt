@@ -1,13 +1,12 @@
 -- Questions that the test finds to be the same.
 use Rattle.std.proofs.Common.{◌≡◌, ℕ, true, ◌&&◌, ◌==◌, refl}
 use Rattle.std.specs.Cmp.Derive.{both_true}
-use Rattle.counting.proofs.Counts.{both}
 use Rattle.design_base.specs.declared.query.Group.{Group}
 use Rattle.design_base.specs.declared.query.Group.TheVariants.{Cyclic, Field}
 use Rattle.design_base.specs.declared.query.Query.{Query}
 use Rattle.design_base.specs.declared.query.Query.TheVariants.{Td, Df, Bibd, Gdd, Pbd}
 use Rattle.design_base.specs.Same.{same_query, same_group}
-use Rattle.std.proofs.lemmas.Bool.{eqb-true, eq-eqb}
+use Rattle.counting.proofs.Booleans.{both, eq-eqb, eqb-true}
 
 pub group_same : (g h : Group) → same_group g h ≡ true → g ≡ h
 group_same Cyclic Cyclic e = refl

@@ -2,7 +2,8 @@
 use Rattle.std.proofs.Common.{List, [], ap₂, arith, get_or, sym, ℕ, ◌&&◌, ◌<◌, ◌==◌, ◌∙◌, ◌∷◌, ◌≡◌, ◌≤◌}
 use Rattle.std.proofs.lemmas.List.Elements.{All-from_recursion}
 use Rattle.std.specs.Prelude.{All}
-use Rattle.counting.proofs.Counts.{both_equal, both_equal-from, grid_one, sum_below-same}
+use Rattle.counting.proofs.Booleans.{both_equal, both_equal-from}
+use Rattle.counting.proofs.Counts.{grid_one, sum_below-same}
 use Rattle.counting.proofs.Lists.{sum_by-join_below, sum_by-single}
 use Rattle.counting.proofs.Ranges.{All-join_below, each_below, get_or-list_below, length-list_below}
 use Rattle.counting.specs.Sums.{join_below, list_below, one, sum_below}

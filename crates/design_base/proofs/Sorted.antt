@@ -1,6 +1,6 @@
 -- What is sorted and holds the same blocks is the canonical form.
 use Rattle.std.proofs.Common.{List, [], arith, false, get_or, map, refl, subst, suc, sym, true, ℕ, ◌∷◌, ◌≡◌}
-use Rattle.std.proofs.lemmas.Bool.{false≢true}
+use Rattle.counting.proofs.Booleans.{false≢true}
 use Rattle.std.proofs.lemmas.Bool.Decides.{nat_tests}
 use Rattle.std.specs.Cmp.Lexicographic.{slice_cmp}
 use Rattle.std.specs.List.Sorted.{IsPermutation, IsSorted}

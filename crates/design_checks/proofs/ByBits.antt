@@ -1,6 +1,6 @@
 -- Bits that say which points of different groups meet, and what follows where all of them are set.
 use Rattle.std.proofs.Common.{List, [], ap, ap₂, arith, drop, get_or, inl, inr, length, length-drop, map, refl, replicate, set, subst, sym, take, ℕ, ◌*◌, ◌++◌, ◌+◌, ◌-◌, ◌/◌, ◌<◌, ◌^◌, ◌∙◌, ◌∷◌, ◌≡◌, ◌≢◌, ◌≤◌}
-use Rattle.std.proofs.lemmas.Bool.{and_from, cases_eq}
+use Rattle.counting.proofs.Booleans.{and_from, cases_eq}
 use Rattle.std.proofs.lemmas.Grind.{get_or-set_at, get_or_default_zero, same_number_lists}
 use Rattle.std.proofs.lemmas.List.{get_or-drop, get_or-replicate, get_or-set_other, get_or-take, length-map, length-take-le}
 use Rattle.std.proofs.lemmas.List.Elements.{All-map, All-weaker, recursion_from_All}
@@ -19,7 +19,7 @@ use Rattle.design_base.proofs.Rows.{agree-all, cover-blocks_of_rows, oa_from_pai
 use Rattle.design_base.specs.Arrays.{IsRow, agree, blocks_of_rows, place, row_block}
 use Rattle.design_base.specs.Blocks.{IsBlock, IsTd, across, cover, holds}
 use Rattle.design_checks.specs.Bits.{IsAcross, MeetsLater, Tells}
-use Rattle.design_checks.specs.declared.transversal.TheConstants.{GROUPS}
+use Rattle.design_checks.specs.declared.transversal.TheConstants.{GROUPS, WORD_BITS}
 
 -- no bit is set
 pub none_told : (m k n i : ℕ) → k ≤ GROUPS → n * GROUPS ≤ m → Tells (replicate m 0) k n i []
@@ -37,8 +37,8 @@ word_within words from to word p room each l m =
     ∙ each (p - from) 0 (omega (arith, length-take-le (to - from) (drop from words) (omega (arith, length-drop from words))))
 
 -- all bits of a word of n bits are set
-pub full_word : (n b : ℕ) → n ≤ 64 → b < n → bit_at ((2 ^ 64 - 1) / 2 ^ (64 - n)) b ≡ 1
-full_word n b l m = ap (λ w. bit_at w b) (ones_shr 64 (64 - n) (omega arith) ∙ ap (λ k. 2 ^ k - 1) (omega arith)) ∙ bit_at_ones n b m
+pub full_word : (n b : ℕ) → n ≤ WORD_BITS → b < n → bit_at ((2 ^ WORD_BITS - 1) / 2 ^ (WORD_BITS - n)) b ≡ 1
+full_word n b l m = ap (λ w. bit_at w b) (ones_shr WORD_BITS (WORD_BITS - n) (omega arith) ∙ ap (λ k. 2 ^ k - 1) (omega arith)) ∙ bit_at_ones n b m
 
 module _ (k n i : ℕ) (B : List (List ℕ)) (block : List ℕ) where
   -- one block more takes nothing away

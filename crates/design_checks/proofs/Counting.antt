@@ -1,6 +1,6 @@
 -- Counting the pairs of a row, one number of the row after another.
 use Rattle.std.proofs.Common.{List, [], ap, arith, cond, drop, false, get_or, inl, inr, length, length-drop, refl, set, suc, sym, take, true, Bool, zero, ℕ, ◌&&◌, ◌*◌, ◌+◌, ◌-◌, ◌<◌, ◌==◌, ◌^◌, ◌∙◌, ◌∷◌, ◌≡◌, ◌≤◌, ◌⊎◌, ◌||◌}
-use Rattle.std.proofs.lemmas.Bool.{cases_eq, cases_lt, eq-eqb, eqb-true, false≢true, ne_eqb, or_from}
+use Rattle.counting.proofs.Booleans.{bool_same, cases_eq, cases_lt, eq-eqb, eqb-true, false_from_ne_true, false≢true, ne_eqb, or_from}
 use Rattle.std.proofs.lemmas.Grind.{get_or-set_at}
 use Rattle.std.proofs.lemmas.List.{drop_all, drop_more, get_or-set_other, length-take-le}
 use Rattle.std.proofs.lemmas.List.Elements.{All-from_recursion, recursion_from_All}
@@ -8,7 +8,7 @@ use Rattle.std.proofs.lemmas.List.Sums.{count_by-le-length, count_by_more_no, co
 use Rattle.std.proofs.lemmas.Nat.{same_from_place}
 use Rattle.std.specs.List.{AllByRecursion, count_by, sum_by}
 use Rattle.std.specs.Prelude.{All}
-use Rattle.counting.proofs.Counts.{bool_same, one-false}
+use Rattle.counting.proofs.Counts.{one-false, one-most}
 use Rattle.counting.proofs.Lists.{each-weaker, each_all, sum_by-same, sum_by-zero}
 use Rattle.counting.specs.Sums.{one}
 use Rattle.design_base.proofs.Canonical.{Rises, differs_from_rises, rises_from_increasing}
@@ -30,17 +30,9 @@ count_more old counts points base i p e l m = let q = base + get_or points i 0 i
 pub count_so_far : (base i p : ℕ) (points : List ℕ) → i ≤ length points → count_by (λ y. base + y == p) (take i points) ≤ i
 count_so_far base i p points l = omega (arith, count_by-le-length (λ y. base + y == p) (take i points), length-take-le i points l)
 
-pub one-le : (b : Bool) → one b ≤ 1
-unfolding one
-one-le true = omega arith
-one-le false = omega arith
-
-not_so : (b : Bool) → (b ≡ true → ⊥) → b ≡ false
-not_so b h = bool_same b false (λ e. absurd (h e)) (λ e. absurd (false≢true e))
-
 -- greater numbers are not x
 missing : (x z : ℕ) (later : List ℕ) → AllByRecursion (λ w. z < w) later → x ≤ z → holds x later ≡ false
-missing x z later h l = not_so (holds x later) (λ e. let g = each_at (λ w. z < w) x later h e in absurd (omega arith))
+missing x z later h l = false_from_ne_true (holds x later) (λ e. let g = each_at (λ w. z < w) x later h e in absurd (omega arith))
 
 -- whether x < y stand in the rest of a row, with its first number z and without it
 pub held_step : (x y z : ℕ) (later : List ℕ) → AllByRecursion (λ w. z < w) later → x < y
@@ -101,7 +93,7 @@ module _ (row : List ℕ) (v low high : ℕ) where
   -- nothing is left behind the last number below high
   pub none_left : (old now : List ℕ) (i : ℕ) → IsRowOf v row → (i < length row → high ≤ get_or row i 0) → Left old now row v low high i
       → Pairwise v low high (λ x y. get_or now (cell v low x y) 0 ≡ get_or old (cell v low x y) 0 + one (holds x row && holds y row))
-  none_left old now i is above left x y a b c d = omega (arith, left.sum x y a b c d, one-le (holds x (drop i row) && holds y (drop i row)), ap (λ t. one (t && holds y (drop i row))) (none (cases_lt i (length row))), one-false (false && holds y (drop i row)) (λ e. false≢true e))
+  none_left old now i is above left x y a b c d = omega (arith, left.sum x y a b c d, one-most (holds x (drop i row) && holds y (drop i row)), ap (λ t. one (t && holds y (drop i row))) (none (cases_lt i (length row))), one-false (false && holds y (drop i row)) (λ e. false≢true e))
     where
       none : (i < length row) ⊎ (length row ≤ i) → holds x (drop i row) ≡ false
       none (inl l) = rw (drop_more row i 0 l) (let front = rw (drop_more row i 0 l) at (rises_drop i row (rises_from_increasing row is.rises)) in
@@ -132,4 +124,4 @@ module _ (row : List ℕ) (v low high : ℕ) where
       let front = rw (drop_more row i 0 l) at (rises_drop i row (rises_from_increasing row is.rises)) in
       let above : z < w = All-from_recursion (λ w. z < w) later front.0 k d n in
       let below : w < v = All-from_recursion (λ w. w < v) later (each_drop (λ w. w < v) (i + 1) row (recursion_from_All (λ w. w < v) row is.below)) k d n in
-      omega (arith, left.sum z w m h above below, one-le (holds z row && holds w row), room z w m h above below, length-drop (i + 1) row)
+      omega (arith, left.sum z w m h above below, one-most (holds z row && holds w row), room z w m h above below, length-drop (i + 1) row)

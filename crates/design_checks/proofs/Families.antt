@@ -1,11 +1,11 @@
 -- Differences from the covers of the pairs: d is the difference of x and x + d wherever both stand together.
 use Rattle.std.proofs.Common.{List, [], add-one, ap, arith, cond, get_or, length, refl, sym, ℕ, ◌&&◌, ◌*◌, ◌+◌, ◌<◌, ◌==◌, ◌∙◌, ◌∷◌, ◌≡◌, ◌≢◌, ◌≤◌}
-use Rattle.std.proofs.lemmas.Bool.{eq-eqb, eqb-true}
+use Rattle.counting.proofs.Booleans.{eq-eqb, eqb-true, eqb-turn}
 use Rattle.std.proofs.lemmas.List.Elements.{All-weaker, recursion_from_All}
 use Rattle.std.proofs.lemmas.List.Sums.{sum_by-cons, sum_by-le}
 use Rattle.std.specs.List.{AllByRecursion, count_by, sum_by}
 use Rattle.std.specs.Prelude.{All}
-use Rattle.counting.proofs.Counts.{eqb-turn, one-false, one-true, sum_below-at, sum_below-same}
+use Rattle.counting.proofs.Counts.{one-false, one-most, one-true, sum_below-at, sum_below-same}
 use Rattle.counting.proofs.Lists.{each-weaker, each_all, one-and, sum_by-agree, sum_by-mul, sum_by-same, sum_by-sum_below}
 use Rattle.counting.specs.Sums.{one, sum_below}
 use Rattle.design_base.proofs.Canonical.{Rises, differs_from_rises, rises_from_increasing}
@@ -17,7 +17,6 @@ use Rattle.design_base.specs.declared.query.Group.{Group}
 use Rattle.field_tables.proofs.AnyGroup.{group_cancel}
 use Rattle.field_tables.proofs.GroupSums.{group_sums}
 use Rattle.incidence.specs.Packed.{size_of}
-use Rattle.design_checks.proofs.Counting.{one-le}
 use Rattle.design_checks.specs.Counts.{IsRowOf}
 
 -- a loop's step: one term more
@@ -62,7 +61,7 @@ module _ (v : ℕ) (add : ℕ → ℕ → ℕ) (d : ℕ) where
   -- each point of a row begins one difference at most
   row_few : (row : List ℕ) → IsRowOf v row → sum_by (λ x. count_by (λ y. add x d == y) row) row ≤ length row
   row_few row is = let r = rises_from_increasing row is.rises in
-      omega (arith, sum_by-le (λ x. count_by (λ y. add x d == y) row) 1 row (λ i e l. omega (arith, times_held (add (get_or row i e) d) row r, one-le (holds (add (get_or row i e) d) row))))
+      omega (arith, sum_by-le (λ x. count_by (λ y. add x d == y) row) 1 row (λ i e l. omega (arith, times_held (add (get_or row i e) d) row r, one-most (holds (add (get_or row i e) d) row))))
 
   few : (B : List (List ℕ)) → AllByRecursion (λ b. sum_by (λ x. count_by (λ y. add x d == y) b) b ≤ length b) B → differences add B d ≤ sum_by length B
   unfolding differences

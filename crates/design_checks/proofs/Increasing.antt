@@ -1,20 +1,19 @@
 -- What the tests of a block tell.
 use Rattle.std.proofs.Common.{Bool, List, [], add-one, ap, arith, false, get_or, inl, inr, refl, sym, true, suc, zero, ℕ, ◌+◌, ◌∙◌, ◌∷◌, ◌≡◌}
-use Rattle.std.proofs.lemmas.Bool.{and_from, and_parts, cases_eq, false≢true, lt-ltb, ltb-true}
+use Rattle.counting.proofs.Booleans.{and_from, bool_same, both, cases_eq, false≢true, lt-ltb, ltb-true}
 use Rattle.std.proofs.lemmas.List.Kept.{AllPairs-from_increasing}
 use Rattle.std.specs.List.{IsAllAdjacentAnswer}
 use Rattle.std.specs.List.Sorted.{IsPartitionedBy, IsStrictlyIncreasing}
 use Rattle.std.specs.Prelude.{nat_lt}
-use Rattle.counting.proofs.Counts.{bool_same}
 use Rattle.design_checks.specs.Findings.{rises}
 
 pub increasing_from_test : (b : List ℕ) → rises b ≡ true → IsStrictlyIncreasing b
 unfolding rises
 increasing_from_test [] e k h = absurd (omega arith)
 increasing_from_test (x ∷ []) e k h = absurd (omega arith)
-increasing_from_test (x ∷ (y ∷ ys)) e zero h = ltb-true x y (and_parts (nat_lt x y) (rises (y ∷ ys)) e).0
+increasing_from_test (x ∷ (y ∷ ys)) e zero h = ltb-true x y (both (nat_lt x y) (rises (y ∷ ys)) e).0
 increasing_from_test (x ∷ (y ∷ ys)) e (suc k) h =
-    rw (add-one (suc k)) (rw (add-one k) at (increasing_from_test (y ∷ ys) (and_parts (nat_lt x y) (rises (y ∷ ys)) e).1 k (omega arith)))
+    rw (add-one (suc k)) (rw (add-one k) at (increasing_from_test (y ∷ ys) (both (nat_lt x y) (rises (y ∷ ys)) e).1 k (omega arith)))
 
 pub test_from_increasing : (b : List ℕ) → IsStrictlyIncreasing b → rises b ≡ true
 unfolding rises

@@ -1,6 +1,6 @@
 -- A finding is Valid exactly where the block list meets the question.
 use Rattle.std.proofs.Common.{Bool, List, ap, arith, false, refl, sym, true, ℕ, ◌&&◌, ◌*◌, ◌+◌, ◌<◌, ◌∙◌, ◌≡◌, ◌≤◌, ◌⊎◌}
-use Rattle.std.proofs.lemmas.Bool.{and_parts, leb-true}
+use Rattle.counting.proofs.Booleans.{both, leb-true}
 use Rattle.std.specs.Bool.{Decides}
 use Rattle.std.specs.Prelude.{nat_le, ◌↔◌}
 use Rattle.design_base.specs.Blocks.{IsBibd, IsGdd, IsPbd, IsTd, across}
@@ -96,10 +96,10 @@ listed_group Field v e = FieldAt-listed v e
 pub group_asked : (group : Group) (v k l : ℕ) → in_bounds (Df group v k l) ≡ true → IsGroup group v
 unfolding in_bounds
 group_asked group v k l e =
-    let a = and_parts (within 2 v k && nat_le v POINTS_MAX && within 1 COVER_MAX l) (is_listed group v) e in
-    let b = and_parts (within 2 v k && nat_le v POINTS_MAX) (within 1 COVER_MAX l) a.0 in
-    let c = and_parts (within 2 v k) (nat_le v POINTS_MAX) b.0 in
-    let d = and_parts (nat_le 2 k) (nat_le k v) c.0 in
+    let a = both (within 2 v k && nat_le v POINTS_MAX && within 1 COVER_MAX l) (is_listed group v) e in
+    let b = both (within 2 v k && nat_le v POINTS_MAX) (within 1 COVER_MAX l) a.0 in
+    let c = both (within 2 v k) (nat_le v POINTS_MAX) b.0 in
+    let d = both (nat_le 2 k) (nat_le k v) c.0 in
     record {
       some = omega (arith, leb-true 2 k d.0, leb-true k v d.1);
       small = leb-true v POINTS_MAX c.1;

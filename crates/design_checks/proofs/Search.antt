@@ -1,6 +1,6 @@
 -- Searches for the first element that passes a test.
 use Rattle.std.proofs.Common.{Bool, List, None, Option, Some, [], ap, arith, cond, false, inl, inr, length, refl, suc, sym, true, zero, ℕ, ◌++◌, ◌<◌, ◌∙◌, ◌∷◌, ◌≡◌}
-use Rattle.std.proofs.lemmas.Bool.{cases_eq, cases_lt, false≢true, le-ltb, ltb-false}
+use Rattle.counting.proofs.Booleans.{cases_eq, cases_lt, false≢true, le-ltb, ltb-false}
 use Rattle.std.proofs.lemmas.List.Sums.{fails_before_first, passes_at_first}
 use Rattle.std.specs.List.{position_or_len}
 use Rattle.std.specs.Prelude.{All, nat_lt, position}

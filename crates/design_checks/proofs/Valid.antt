@@ -1,6 +1,6 @@
 -- A finding is Valid exactly where the block list is such a design.
 use Rattle.std.proofs.Common.{Bool, List, None, Option, Some, [], ap, arith, get_or, inl, inr, length, not, refl, subst, sym, true, ℕ, ◌&&◌, ◌+◌, ◌-◌, ◌<◌, ◌==◌, ◌∙◌, ◌∷◌, ◌≡◌, ◌⊎◌}
-use Rattle.std.proofs.lemmas.Bool.{and_from, and_parts, cases_eq, eq-eqb, eqb-true, le-leb, leb-true, ne_eqb, not-false, not_from_false, not_from_true}
+use Rattle.counting.proofs.Booleans.{and_from, both, cases_eq, eq-eqb, eqb-true, le-leb, leb-true, ne_eqb, not-false, not_from_false, not_from_true}
 use Rattle.std.proofs.lemmas.Bool.Decides.{Decides-by_and, Decides-ltb}
 use Rattle.std.specs.Bool.{Decides}
 use Rattle.std.specs.List.{list_all}
@@ -87,11 +87,11 @@ module _ (good : List ℕ → Bool) (B : List (List ℕ)) (else_found : Finding)
 
 -- ---- blocks, of sizes that a test tells
 pub exactly : (k n : ℕ) → Decides (within k k n) (n ≡ k)
-exactly k n = ((λ e. let r = and_parts (nat_le k n) (nat_le n k) e in omega (arith, leb-true k n r.0, leb-true n k r.1)), (λ e. and_from (nat_le k n) (nat_le n k) (le-leb k n (omega arith)) (le-leb n k (omega arith))))
+exactly k n = ((λ e. let r = both (nat_le k n) (nat_le n k) e in omega (arith, leb-true k n r.0, leb-true n k r.1)), (λ e. and_from (nat_le k n) (nat_le n k) (le-leb k n (omega arith)) (le-leb n k (omega arith))))
 
 pub or_one_more : (s n : ℕ) → Decides (within s (s + 1) n) ((n ≡ s) ⊎ (n ≡ s + 1))
 or_one_more s n = (
-  (λ e. let r = and_parts (nat_le s n) (nat_le n (s + 1)) e in elim (cases_eq n s) [ inl f ↦ inl f | inr d ↦ inr (omega (arith, leb-true s n r.0, leb-true n (s + 1) r.1)) ]),
+  (λ e. let r = both (nat_le s n) (nat_le n (s + 1)) e in elim (cases_eq n s) [ inl f ↦ inl f | inr d ↦ inr (omega (arith, leb-true s n r.0, leb-true n (s + 1) r.1)) ]),
   (λ e. and_from (nat_le s n) (nat_le n (s + 1)) (le-leb s n (elim e [ inl f ↦ omega arith | inr f ↦ omega arith ])) (le-leb n (s + 1) (elim e [ inl f ↦ omega arith | inr f ↦ omega arith ]))),
 )
 
@@ -101,8 +101,8 @@ module _ (v least most : ℕ) (Size : ℕ → Type 0) (tells : (n : ℕ) → Dec
 
   pub block_from_test : (b : List ℕ) → is_block v least most b ≡ true → IsBlock v Size b
   block_from_test b e =
-      let c = and_parts (rises b && list_all (λ x. nat_lt x v) b) (within least most (length b)) e in
-      let d = and_parts (rises b) (list_all (λ x. nat_lt x v) b) c.0 in
+      let c = both (rises b && list_all (λ x. nat_lt x v) b) (within least most (length b)) e in
+      let d = both (rises b) (list_all (λ x. nat_lt x v) b) c.0 in
       record {
         rises = increasing_from_test b d.0;
         below = (points_told b).0 d.1;

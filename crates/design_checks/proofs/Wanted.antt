@@ -1,7 +1,7 @@
 -- How often two points are to stand together.
 use Rattle.std.proofs.Common.{arith, cond, inl, inr, refl, ℕ, ◌*◌, ◌+◌, ◌/◌, ◌<◌, ◌≡◌, ◌≤◌}
 use Rattle.std.proofs.Math.Nat.{div-mul-le_self}
-use Rattle.std.proofs.lemmas.Bool.{cases_lt, eq-eqb, le-ltb, lt-ltb, ne_eqb}
+use Rattle.counting.proofs.Booleans.{cases_lt, eq-eqb, le-ltb, lt-ltb, ne_eqb}
 use Rattle.std.proofs.lemmas.Nat.{div_below, le-div}
 use Rattle.std.specs.Prelude.{nat_lt}
 use Rattle.design_base.specs.Blocks.{across}

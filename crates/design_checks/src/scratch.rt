@@ -18,7 +18,7 @@ pub(crate) const COUNTS: usize = CHUNK as usize * WIDTH as usize;
 #[derive(Drop)]
 pub struct Scratch {
     pub(crate) counts: Vec<u32>,
-    pub(crate) bits: Vec<u64>,
+    pub(crate) bits: Vec<u128>,
     pub(crate) ghost counted: { COUNTS ≤ vec_capacity counts },
     pub(crate) ghost noted: { WORDS ≤ vec_capacity bits },
 }

@@ -4,9 +4,13 @@ ghost use Rattle.std.specs.Int.{bit_at};
 ghost use Rattle.design_base.specs.Blocks.{IsTd};
 ghost use Rattle.design_base.specs.declared.limits.TheConstants.{TD_K_MAX, TD_N_MAX};
 ghost use Rattle.design_checks.specs.Bits.{AreSet, IsAcross, MeetsLater, Tells};
+ghost use Rattle.design_checks.specs.declared.transversal.TheConstants.{WORD_BITS};
 
 use design_base::{TD_K_MAX, TD_N_MAX};
 use incidence::Rows;
+
+// The bits of a word: one for each point of a group.
+const WORD_BITS: u16 = 128;
 
 /// The words in a line of bits: one for each group.
 pub(crate) const GROUPS: usize = TD_K_MAX as usize;
@@ -45,8 +49,8 @@ fn are_across(rows: &Rows, k: u16, n: u16) -> bool
 }
 
 // The word with bit b set.
-fn with_bit(word: u64, b: u16) -> u64
-    requires { b < 64 }
+fn with_bit(word: u128, b: u16) -> u128
+    requires { b < WORD_BITS }
     ensures set { bit_at result b ≡ 1 }
     ensures others { (i : ℕ) → i ≢ b → bit_at result i ≡ bit_at word i }
 {
@@ -54,7 +58,7 @@ fn with_bit(word: u64, b: u16) -> u64
 }
 
 // Sets the bits of the block's point of group i and its points of later groups.
-fn note_block(block: &[u16], k: u16, n: u16, i: u16, words: &mut [u64])
+fn note_block(block: &[u16], k: u16, n: u16, i: u16, words: &mut [u128])
     requires block { IsAcross k n block.now }
     requires group { (i < k) × (k ≤ TD_K_MAX) × (n ≤ TD_N_MAX) }
     requires room { length words.old ≡ n * TD_K_MAX }
@@ -68,7 +72,7 @@ fn note_block(block: &[u16], k: u16, n: u16, i: u16, words: &mut [u64])
 }
 
 // Sets the bits of the points of group i and those of later groups that they meet.
-fn note_blocks(rows: &Rows, k: u16, n: u16, i: u16, words: &mut [u64])
+fn note_blocks(rows: &Rows, k: u16, n: u16, i: u16, words: &mut [u128])
     requires blocks { All (IsAcross k n) rows.now }
     requires group { (i < k) × (k ≤ TD_K_MAX) × (n ≤ TD_N_MAX) }
     requires room { length words.old ≡ n * TD_K_MAX }
@@ -81,19 +85,19 @@ fn note_blocks(rows: &Rows, k: u16, n: u16, i: u16, words: &mut [u64])
 }
 
 // Whether the words are all the one.
-fn are_all(words: &[u64], word: u64) -> bool
+fn are_all(words: &[u128], word: u128) -> bool
     ensures { IsTrue result → All (λ w. w ≡ word) words.now }
 {
     words.iter().all(|w| *w == word)
 }
 
 // Whether all bits of the points of group i and those of later groups are set.
-fn are_set(words: &[u64], k: u16, n: u16, i: u16) -> bool
+fn are_set(words: &[u128], k: u16, n: u16, i: u16) -> bool
     requires group { (i < k) × (k ≤ TD_K_MAX) × (0 < n) × (n ≤ TD_N_MAX) }
     requires room { length words.now ≡ n * TD_K_MAX }
     ensures { IsTrue result → AreSet words.now k n i }
 {
-    let full = u64::MAX >> (TD_N_MAX - n);
+    let full = u128::MAX >> (WORD_BITS - n);
     for a in 0..n {
         let line = a as usize * GROUPS;
         if !are_all(&words[line + i as usize + 1..line + k as usize], full) {
@@ -104,7 +108,7 @@ fn are_set(words: &[u64], k: u16, n: u16, i: u16) -> bool
 }
 
 // Whether each two points of different groups meet.
-fn all_meet(rows: &Rows, k: u16, n: u16, words: &mut [u64]) -> bool
+fn all_meet(rows: &Rows, k: u16, n: u16, words: &mut [u128]) -> bool
     requires blocks { All (IsAcross k n) rows.now }
     requires groups { (k ≤ TD_K_MAX) × (0 < n) × (n ≤ TD_N_MAX) }
     requires room { length words.old ≡ n * TD_K_MAX }
@@ -121,7 +125,7 @@ fn all_meet(rows: &Rows, k: u16, n: u16, words: &mut [u64]) -> bool
 
 /// Whether n * n blocks of k points, one of each group of n points, hold each two points of different groups. They are a
 /// transversal design then. The answer false says nothing.
-pub(crate) fn is_td(rows: &Rows, k: u16, n: u16, words: &mut Vec<u64>) -> bool
+pub(crate) fn is_td(rows: &Rows, k: u16, n: u16, words: &mut Vec<u128>) -> bool
     requires groups { (2 ≤ k) × (k ≤ TD_K_MAX) × (0 < n) × (n ≤ TD_N_MAX) }
     requires room { WORDS ≤ vec_capacity words.old }
     ensures room { vec_capacity words.old ≤ vec_capacity words.new }

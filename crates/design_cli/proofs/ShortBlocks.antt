@@ -1,5 +1,6 @@
 -- Lines are found the same as those up to the first that is too short.
 use Rattle.std.proofs.Common.{◌≡◌, ℕ, suc, ◌+◌, ◌*◌, ◌<◌, ◌≤◌, Bool, true, false, ◌==◌, ◌&&◌, ◌||◌, not, List, [], ◌∷◌, length, map, map-id, Some, None, Option, refl, ap, sym, subst, ◌∙◌, arith}
+use Rattle.counting.proofs.Booleans.{lt-ltb}
 use Rattle.std.specs.Prelude.{if◌then◌else◌, nat_le, nat_lt, position, option_map}
 use Rattle.std.specs.List.{list_all, list_any, position_or_len}
 use Rattle.std.proofs.lemmas.Bool.Decides.{nat_tests}
@@ -41,10 +42,7 @@ module _ (bad : List ℕ → Bool) where
   first-later row rows n is later = record { place = rw is (omega (arith, later.place)); inside = omega (arith, later.inside) }
 
   first-found : (rows : List (List ℕ)) (n : ℕ) → IsFirst rows n → position bad rows ≡ Some n
-  first-found rows n first = rw first.place (rw (is_less n (length rows) first.inside) refl)
-    where
-      is_less : (a b : ℕ) → a < b → nat_lt a b ≡ true
-      is_less a b l = grind (arith, nat_tests)
+  first-found rows n first = rw first.place (rw (lt-ltb n (length rows) first.inside) refl)
 
 -- the two lists have their first bad row at one place
 record SamePlace (bad : List ℕ → Bool) (few all : List (List ℕ)) : Type 0 where

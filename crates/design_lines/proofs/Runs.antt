@@ -4,7 +4,7 @@ use Rattle.std.specs.Prelude.{not, filter, take_while}
 use Rattle.std.specs.List.{slice_split, onto_first, prefix_len}
 use Rattle.std.proofs.lemmas.List.Splits.{slice_split-cons_yes, slice_split-cons_no}
 use Rattle.std.proofs.lemmas.List.Sums.{take_while-cons}
-use Rattle.std.proofs.lemmas.Bool.{le-leb}
+use Rattle.counting.proofs.Booleans.{le-leb}
 use Rattle.design_lines.specs.Words.{words_of, is_blank, is_in_word, is_not_empty}
 
 -- how many elements pass before the first that fails

@@ -1,7 +1,7 @@
 -- The bytes of reports.
 use Rattle.std.proofs.Common.{◌≡◌, ℕ, zero, suc, ◌+◌, ◌-◌, ◌<◌, ◌≤◌, List, [], ◌∷◌, ◌++◌, append-nil, append_assoc, arith, inl, inr, sym, drop, get_or, length, length-drop, map, slice_get, take, Option, Result, Some, refl, ap, ◌∙◌}
 use Rattle.std.proofs.KnownBytes.{Appends-nil, Appends-trans}
-use Rattle.std.proofs.lemmas.Bool.{cases_lt}
+use Rattle.counting.proofs.Booleans.{cases_lt}
 use Rattle.counting.proofs.Counts.{join_below_more, join_below_none}
 use Rattle.counting.specs.Sums.{join_below}
 use Rattle.std.proofs.Math.Seq.{take-add}

@@ -1,7 +1,7 @@
 -- What a step that applies tells of its numbers, and that its list meets the question.
 use Rattle.std.proofs.Common.{arith, false, refl, true, ℕ, ◌%◌, ◌*◌, ◌+◌, ◌-◌, ◌/◌, ◌<◌, ◌≡◌, ◌≤◌}
 use Rattle.std.proofs.Math.Nat.{div-add-mod'}
-use Rattle.std.proofs.lemmas.Bool.{and_parts, eqb-true, leb-true}
+use Rattle.counting.proofs.Booleans.{both, eqb-true, leb-true}
 use Rattle.std.specs.Prelude.{◌&&◌, ◌==◌, length}
 use Rattle.counting.specs.Division.{divides}
 use Rattle.counting.specs.Search.{is_among, ◌<=◌}
@@ -27,8 +27,8 @@ use Rattle.difference_sets.specs.Listed.{families, family_at}
 listed_number : (n : ℕ) (group : Group) (v k l : ℕ) → is_listed_family n group v k l ≡ true → (1 ≤ n) × (n ≤ length families)
 unfolding is_listed_family
 listed_number n group v k l h =
-    let a = and_parts (1 <= n && n <= length families) (is_family_over (family_at n) group v k l) h in
-    let b = and_parts (1 <= n) (n <= length families) a.0 in
+    let a = both (1 <= n && n <= length families) (is_family_over (family_at n) group v k l) h in
+    let b = both (1 <= n) (n <= length families) a.0 in
     (leb-true 1 n b.0, leb-true n (length families) b.1)
 
 pub table_number : (group : Group) (v k l a b : ℕ) → family_applies group v k l Table a b ≡ true → (1 ≤ a) × (a ≤ length families)
@@ -39,10 +39,10 @@ table_number Cyclic v k l a b h = listed_number a Cyclic v k l h
 pub powers_build : (group : Group) (v k l e z : ℕ) → family_applies group v k l Powers e z ≡ true → (0 < e) × CanBuildCosets v z e ((v - 1) / e) 1
 unfolding family_applies is_stated
 powers_build Field v k l e z h =
-    let row = (and_parts (is_power_row v e z l) (k == (v - 1) / e + z) h).0 in
+    let row = (both (is_power_row v e z l) (k == (v - 1) / e + z) h).0 in
     let is = row_is_family v e z l row in
-    let a = and_parts (is_among e _ && divides e (v - 1)) (is_among z _) is.index in
-    let whole : (v - 1) % e ≡ 0 = eqb-true _ _ (and_parts (is_among e _) (divides e (v - 1)) a.0).1 in
+    let a = both (is_among e _ && divides e (v - 1)) (is_among z _) is.index in
+    let whole : (v - 1) % e ≡ 0 = eqb-true _ _ (both (is_among e _) (divides e (v - 1)) a.0).1 in
     let small = row_small v e z l row in
     (small.0, record { listed = is.listed; zero = small.1; whole = omega (arith, div-add-mod' (v - 1) e, whole); inside = omega (arith, small.0) })
 powers_build Cyclic v k l e z h = absurd (let f : false ≡ true = h in cc)
@@ -50,27 +50,27 @@ powers_build Cyclic v k l e z h = absurd (let f : false ≡ true = h in cc)
 pub cosets_build : (group : Group) (v k l a b : ℕ) → family_applies group v k l Cosets a b ≡ true → CanBuildCosets v 0 ((v - 1) / k) k ((v - 1) / k)
 unfolding family_applies is_stated are_cosets
 cosets_build Field v k l a b h =
-    let c = and_parts (has_field v && divides k (v - 1)) (l + 1 == k) h in
-    let d = and_parts (has_field v) (divides k (v - 1)) c.0 in
+    let c = both (has_field v && divides k (v - 1)) (l + 1 == k) h in
+    let d = both (has_field v) (divides k (v - 1)) c.0 in
     record { listed = d.0; zero = omega arith; whole = whole_times (v - 1) k (eqb-true _ _ d.1); inside = omega arith }
 cosets_build Cyclic v k l a b h = absurd (let f : false ≡ true = h in cc)
 
 pub cosets0_build : (group : Group) (v k l a b : ℕ) → family_applies group v k l Cosets0 a b ≡ true → CanBuildCosets v 1 ((v - 1) / (k - 1)) (k - 1) ((v - 1) / (k - 1))
 unfolding family_applies is_stated are_cosets0
 cosets0_build Field v k l a b h =
-    let c = and_parts (has_field v && divides (k - 1) (v - 1)) (l == k) h in
-    let d = and_parts (has_field v) (divides (k - 1) (v - 1)) c.0 in
+    let c = both (has_field v && divides (k - 1) (v - 1)) (l == k) h in
+    let d = both (has_field v) (divides (k - 1) (v - 1)) c.0 in
     record { listed = d.0; zero = omega arith; whole = whole_times (v - 1) (k - 1) (eqb-true _ _ d.1); inside = omega arith }
 cosets0_build Cyclic v k l a b h = absurd (let f : false ≡ true = h in cc)
 
 pub halfcosets_build : (group : Group) (v k l a b : ℕ) → family_applies group v k l Halfcosets a b ≡ true → CanBuildCosets v 0 ((v - 1) / k) k ((v - 1) / k / 2)
 unfolding family_applies is_stated are_halfcosets
 halfcosets_build Field v k l a b h =
-    let c = and_parts (has_field v && v % 2 == 1 && k % 2 == 1 && divides (2 * k) (v - 1)) (2 * l + 1 == k) h in
-    let d = and_parts (has_field v && v % 2 == 1 && k % 2 == 1) (divides (2 * k) (v - 1)) c.0 in
-    let e = and_parts (has_field v && v % 2 == 1) (k % 2 == 1) d.0 in
+    let c = both (has_field v && v % 2 == 1 && k % 2 == 1 && divides (2 * k) (v - 1)) (2 * l + 1 == k) h in
+    let d = both (has_field v && v % 2 == 1 && k % 2 == 1) (divides (2 * k) (v - 1)) c.0 in
+    let e = both (has_field v && v % 2 == 1) (k % 2 == 1) d.0 in
     let twice = twice_times (v - 1) k (omega (arith, eqb-true _ _ c.1)) (eqb-true _ _ d.1) in
-    record { listed = (and_parts (has_field v) (v % 2 == 1) e.0).0; zero = omega arith; whole = twice.whole; inside = omega (arith, twice.halves) }
+    record { listed = (both (has_field v) (v % 2 == 1) e.0).0; zero = omega arith; whole = twice.whole; inside = omega (arith, twice.halves) }
 halfcosets_build Cyclic v k l a b h = absurd (let f : false ≡ true = h in cc)
 
 -- no other rule applies

@@ -1,9 +1,8 @@
 -- The code's table of families, read.
 use Rattle.std.proofs.Common.{Bor, Bool, List, [], ap, arith, false, get_or, length, map, refl, suc, sym, take, true, zero, ℕ, ◌++◌, ◌+◌, ◌-◌, ◌<◌, ◌∙◌, ◌∷◌, ◌≡◌, ◌≤◌}
-use Rattle.std.proofs.lemmas.Bool.{and_from, and_parts, false≢true, le-leb, leb-true}
+use Rattle.counting.proofs.Booleans.{and_from, bool_same, both, false≢true, le-leb, leb-true}
 use Rattle.std.proofs.lemmas.List.{get_or-map, length-map, map-append, take_more}
 use Rattle.std.specs.Prelude.{◌&&◌}
-use Rattle.counting.proofs.Counts.{bool_same}
 use Rattle.counting.specs.Search.{each_passes, ◌<=◌}
 use Rattle.design_base.specs.declared.query.Group.{Group}
 use Rattle.design_base.specs.declared.query.Group.TheVariants.{Cyclic}
@@ -30,8 +29,8 @@ module _ (E : List Entry) (table : map seen E ≡ families) (n : ℕ) where
   pub no_entry : (group : Group) (v k l : ℕ) → (1 ≤ n → n ≤ length E → ⊥) → false ≡ is_listed_family n group v k l
   unfolding is_listed_family
   no_entry group v k l outside = bool_same _ _ (λ e. absurd (false≢true e)) (λ e.
-      let a = and_parts (1 <= n && n <= length families) (is_family_over (family_at n) group v k l) e in
-      let b = and_parts (1 <= n) (n <= length families) a.0 in
+      let a = both (1 <= n && n <= length families) (is_family_over (family_at n) group v k l) e in
+      let b = both (1 <= n) (n <= length families) a.0 in
       absurd (outside (leb-true 1 n b.0) (omega (arith, entry_count, leb-true n (length families) b.1))))
 
   pub an_entry : (group : Group) (v k l : ℕ) → 1 ≤ n → n ≤ length families → is_family_over (family_at n) group v k l ≡ is_listed_family n group v k l

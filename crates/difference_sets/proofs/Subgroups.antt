@@ -2,10 +2,10 @@
 -- them, where the negative of 1 is outside the subgroup.
 use Rattle.std.proofs.Common.{length, ◌∷◌, ap, ap₂, arith, inl, inr, refl, suc, sym, zero, ℕ, ◌%◌, ◌*◌, ◌+◌, ◌-◌, ◌/◌, ◌<◌, ◌==◌, ◌∙◌, ◌≡◌, ◌≢◌}
 use Rattle.std.proofs.Math.Nat.{div-add-mod', mod-lt, mul-le-mul_left, pos_of_ne-zero}
-use Rattle.std.proofs.lemmas.Bool.{cases_eq, eq-eqb, eqb-true}
+use Rattle.counting.proofs.Booleans.{bool_same, cases_eq, eq-eqb, eqb-true}
 use Rattle.std.proofs.lemmas.List.Elements.{All-from_recursion}
 use Rattle.std.specs.List.{AllByRecursion}
-use Rattle.counting.proofs.Counts.{bool_same, count_none, one-false, sum_below-add, sum_below-const, sum_below-same, sum_below-turn}
+use Rattle.counting.proofs.Counts.{count_none, one-false, sum_below-add, sum_below-const, sum_below-same, sum_below-turn}
 use Rattle.counting.proofs.Ranges.{each_below, length-list_below}
 use Rattle.counting.proofs.Residues.{add_cancels}
 use Rattle.counting.specs.Sums.{one, sum_below}

@@ -1,7 +1,7 @@
 -- Which powers are difference families, and that the families listed one by one are: the checker tests them.
 use Rattle.std.proofs.Common.{Bool, List, None, Option, Some, [], ◌∷◌, ap, arith, false, length, refl, subst, sym, true, ℕ, ◌*◌, ◌+◌, ◌-◌, ◌/◌, ◌<◌, ◌≤◌, ◌∙◌, ◌≡◌, ◌||◌}
 use Rattle.std.proofs.Math.Nat.{div-add-mod'}
-use Rattle.std.proofs.lemmas.Bool.{and_from, and_parts, eq-eqb, eqb-true, false≢true, leb-true}
+use Rattle.counting.proofs.Booleans.{and_from, both, eq-eqb, eqb-true, false≢true, leb-true}
 use Rattle.std.specs.List.{AllByRecursion, list_any}
 use Rattle.std.specs.Prelude.{is_some, not, ◌%◌, ◌&&◌, ◌==◌}
 use Rattle.block_counts.proofs.Families.{differences_counted}
@@ -92,7 +92,7 @@ row_known q e z l h = by (modulus_of q) refl h
     by : (o : Option Modulus) → modulus_of q ≡ o → elim o [ None ↦ false | Some s ↦ is_index q e z && tested (sum_in (Some s)) (product_in (Some s)) q e z l ] ≡ true → IsPowerFamily q e z l
     by None found h = absurd (let f : false ≡ true = h in cc)
     by (Some s) found h =
-        let t = and_parts (is_index q e z) (tested (sum_in (Some s)) (product_in (Some s)) q e z l) h in
+        let t = both (is_index q e z) (tested (sum_in (Some s)) (product_in (Some s)) q e z l) h in
         record {
           listed = ap is_some found;
           index = t.0;
@@ -103,9 +103,9 @@ pub row_is_family : (q e z l : ℕ) → is_power_row q e z l ≡ true → IsPowe
 unfolding is_power_row
 row_is_family q e z l h =
     let r = both_pass row_passes (is_row q e z l) POWER_ROWS rows_pass h in
-    let t = and_parts (r.0.q == q && r.0.e == e) (r.0.z == z && r.0.l == l) r.2 in
-    let a = and_parts (r.0.q == q) (r.0.e == e) t.0 in
-    let b = and_parts (r.0.z == z) (r.0.l == l) t.1 in
+    let t = both (r.0.q == q && r.0.e == e) (r.0.z == z && r.0.l == l) r.2 in
+    let a = both (r.0.q == q) (r.0.e == e) t.0 in
+    let b = both (r.0.z == z) (r.0.l == l) t.1 in
     row_known q e z l
     (subst (λ q. row_passes (power_row q e z l) ≡ true) (eqb-true _ _ a.0)
     (subst (λ e. row_passes (power_row r.0.q e z l) ≡ true) (eqb-true _ _ a.1)
@@ -116,8 +116,8 @@ row_is_family q e z l h =
 pub row_small : (q e z l : ℕ) → is_power_row q e z l ≡ true → (0 < e) × (z ≤ 1)
 unfolding each_passes
 row_small q e z l h =
-    let a = and_parts (is_among e (2 ∷ 4 ∷ 8 ∷ []) && divides e (q - 1)) (is_among z (0 ∷ 1 ∷ [])) (row_is_family q e z l h).index in
-    let b = and_parts (is_among e (2 ∷ 4 ∷ 8 ∷ [])) (divides e (q - 1)) a.0 in
+    let a = both (is_among e (2 ∷ 4 ∷ 8 ∷ []) && divides e (q - 1)) (is_among z (0 ∷ 1 ∷ [])) (row_is_family q e z l h).index in
+    let b = both (is_among e (2 ∷ 4 ∷ 8 ∷ [])) (divides e (q - 1)) a.0 in
     (leb-true 1 e (passes_among (λ e. 1 <= e) e (2 ∷ 4 ∷ 8 ∷ []) least b.0), leb-true z 1 (passes_among (λ z. z <= 1) z (0 ∷ 1 ∷ []) most a.1))
   where
     least : each_passes (λ e. 1 <= e) (2 ∷ 4 ∷ 8 ∷ []) ≡ true
@@ -174,10 +174,10 @@ family_is_row q e z l listed index some few family = by_modulus (modulus_of q) r
     )
 
     a : ((is_among e (2 ∷ 4 ∷ 8 ∷ []) && divides e (q - 1)) ≡ true) × (is_among z (0 ∷ 1 ∷ []) ≡ true)
-    a = and_parts (is_among e (2 ∷ 4 ∷ 8 ∷ []) && divides e (q - 1)) (is_among z (0 ∷ 1 ∷ [])) index
+    a = both (is_among e (2 ∷ 4 ∷ 8 ∷ []) && divides e (q - 1)) (is_among z (0 ∷ 1 ∷ [])) index
 
     b : (is_among e (2 ∷ 4 ∷ 8 ∷ []) ≡ true) × (divides e (q - 1) ≡ true)
-    b = and_parts (is_among e (2 ∷ 4 ∷ 8 ∷ [])) (divides e (q - 1)) a.0
+    b = both (is_among e (2 ∷ 4 ∷ 8 ∷ [])) (divides e (q - 1)) a.0
 
     agrees : counts_agree q e z l ≡ true
     agrees = and_from _ _ (eq-eqb _ _ (omega (arith, div-add-mod' (q - 1) e, eqb-true ((q - 1) % e) 0 b.1))) (eq-eqb _ _ counted)

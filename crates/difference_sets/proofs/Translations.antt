@@ -1,13 +1,13 @@
 -- The translates of a difference family are a BIBD.
 use Rattle.std.proofs.Common.{List, [], ◌∷◌, ap, ap₂, arith, inl, inr, length, map, subst, sym, ℕ, ◌&&◌, ◌*◌, ◌+◌, ◌-◌, ◌<◌, ◌==◌, ◌∙◌, ◌≡◌, ◌≢◌, ◌≤◌}
 use Rattle.std.proofs.Math.Nat.{mul-le-mul_left, mul-le-mul_right}
-use Rattle.std.proofs.lemmas.Bool.{cases_eq, eq-eqb, eqb-true}
+use Rattle.counting.proofs.Booleans.{both_equal, both_equal-from, cases_eq, eq-eqb, eqb-true}
 use Rattle.std.proofs.lemmas.List.{length-map}
 use Rattle.std.proofs.lemmas.List.Elements.{All-from_recursion}
 use Rattle.std.specs.List.{AllByRecursion, flat_map, sum_by}
 use Rattle.std.specs.Prelude.{All}
 use Rattle.block_counts.proofs.Families.{differences_counted}
-use Rattle.counting.proofs.Counts.{both_equal, both_equal-from, count_none, count_one, one-false, one-true, sum_below-same}
+use Rattle.counting.proofs.Counts.{count_none, count_one, one-false, one-true, sum_below-same}
 use Rattle.counting.proofs.Lists.{All-flat_map_of, each_all, each_map, one-and, sum_by-agree, sum_by-flat_map, sum_by-map, sum_by-product, sum_by-same, sum_by-sum_below}
 use Rattle.counting.proofs.Ranges.{each_below}
 use Rattle.counting.specs.Sums.{one, sum_below}

@@ -1,13 +1,13 @@
 -- Powers of a generator of the nonzero elements of a field.
 use Rattle.std.proofs.Common.{Bool, ap, arith, inl, inr, suc, sym, true, zero, ℕ, ◌*◌, ◌+◌, ◌-◌, ◌<◌, ◌≤◌, ◌==◌, ◌∙◌, ◌≡◌}
 use Rattle.std.proofs.Math.Nat.{pos_of_ne-zero}
-use Rattle.std.proofs.lemmas.Bool.{cases_order, eq-eqb, eqb-true}
-use Rattle.counting.proofs.Counts.{count_one, one-true, sum_below-turn, sum_below-const}
+use Rattle.counting.proofs.Booleans.{cases_order, eq-eqb, eqb-true}
+use Rattle.counting.proofs.Counts.{count_one, one-true, sum_below-const, sum_below-le, sum_below-turn}
 use Rattle.counting.specs.Sums.{one, sum_below}
 use Rattle.design_base.specs.Rings.{IsField}
 use Rattle.field_tables.proofs.AnyField.{mul_cancel, no_zero_divisors}
 use Rattle.field_tables.specs.Powers.{power}
-use Rattle.counting.proofs.Totals.{count_unique, each_least, sum_below-le, sum_below-term, sum_below-two}
+use Rattle.counting.proofs.Totals.{count_unique, each_least, sum_below-term, sum_below-two}
 
 -- each element but 0 is one of the powers g ^ 0, .., g ^ (q - 2)
 pub record IsGenerator (q : ℕ) (mul : ℕ → ℕ → ℕ) (g : ℕ) : Type 0 where

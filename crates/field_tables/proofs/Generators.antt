@@ -1,7 +1,7 @@
 -- The generator of each listed field generates its nonzero elements: the checker computes the powers.
 use Rattle.std.proofs.Common.{Bool, List, None, Option, Some, ap, arith, false, refl, subst, suc, sym, true, zero, ℕ, ◌+◌, ◌-◌, ◌<◌, ◌∙◌, ◌≡◌}
 use Rattle.std.specs.Prelude.{is_some, nat_eq, unwrap_or, ◌&&◌, ◌==◌}
-use Rattle.std.proofs.lemmas.Bool.{and_parts, eqb-true, leb-true}
+use Rattle.counting.proofs.Booleans.{both, eqb-true, leb-true}
 use Rattle.counting.specs.Search.{each_passes, first_in, is_among, upward, ◌<=◌}
 use Rattle.counting.specs.Sums.{join_below}
 use Rattle.design_base.specs.Fields.{Modulus, field_product, gen, has_field, order, powers_from, product_in, modulus_of, moduli}
@@ -44,8 +44,8 @@ good_generator : (mul : ℕ → ℕ → ℕ) (q : ℕ) → is_good mul q ≡ tru
 unfolding power
 good_generator mul q e =
     let g : ℕ = least_in mul q in
-    let h = and_parts (1 <= g && g + 1 <= q) (generates mul q g) e in
-    let bounds = and_parts (1 <= g) (g + 1 <= q) h.0 in
+    let h = both (1 <= g && g + 1 <= q) (generates mul q g) e in
+    let bounds = both (1 <= g) (g + 1 <= q) h.0 in
     record {
       positive = leb-true 1 g bounds.0;
       small = omega (arith, leb-true (g + 1) q bounds.1);

@@ -2,7 +2,7 @@
 use Rattle.std.proofs.Common.{Some, None, Option, ◌-◌, ◌/◌, ◌%◌, ◌^◌, ◌≡◌, ℕ, ◌<◌, ◌≤◌, true, false, Bool, refl, List, [], ◌∷◌, length, arith, inl, inr, cond, suc, zero, ap, subst, sym, ◌∙◌, Bor}
 use Rattle.std.specs.Prelude.{◌==◌, ◌&&◌, ◌||◌, if◌then◌else◌, is_some, IsSome, IsSomeAnd, IfSome, ◌↔◌}
 use Rattle.std.specs.Option.{option_copied}
-use Rattle.std.proofs.lemmas.Bool.{eqb-true, leb-true, cases_lt}
+use Rattle.counting.proofs.Booleans.{cases_lt, eqb-true, leb-true}
 use Rattle.std.proofs.lemmas.Bool.Decides.{eqb_tells}
 use Rattle.std.proofs.lemmas.List.{length-map}
 use Rattle.counting.specs.Search.{◌<=◌, each_passes}

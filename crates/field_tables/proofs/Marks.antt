@@ -1,7 +1,7 @@
 -- Powers that are marked, one after another.
 use Rattle.std.proofs.Common.{◌≡◌, ℕ, ◌<◌, suc, Bool, true, false, List, length, slice_index_or, slice_set, replicate, arith, ap, refl, sym, ◌∙◌, inl, inr}
 use Rattle.std.specs.Prelude.{◌||◌}
-use Rattle.std.proofs.lemmas.Bool.{cases_eq, cases_lt, eq-eqb, ne_eqb}
+use Rattle.counting.proofs.Booleans.{cases_eq, cases_lt, eq-eqb, ne_eqb, or_false, or_true}
 use Rattle.std.proofs.lemmas.List.{get_or-set_other, get_or-replicate, length-replicate}
 use Rattle.std.proofs.Math.ListN.{get_or-eq_default}
 use Rattle.std.proofs.lemmas.Grind.{get_or-set_at}
@@ -15,11 +15,7 @@ comes mul g power n seen y = slice_index_or seen y false || is_among y (powers_f
 -- once there are no more powers
 pub comes_last : (mul : ℕ → ℕ → ℕ) (g power : ℕ) (seen : List Bool) (y : ℕ) → comes mul g power 0 seen y ≡ slice_index_or seen y false
 unfolding powers_from is_among
-comes_last mul g power seen y = by (slice_index_or seen y false)
-  where
-    by : (b : Bool) → (b || false) ≡ b
-    by true = refl
-    by false = refl
+comes_last mul g power seen y = or_false (slice_index_or seen y false)
 
 -- the next power is marked
 pub comes_step : (mul : ℕ → ℕ → ℕ) (g power n : ℕ) (seen : List Bool) (y : ℕ) → power < length seen →
@@ -36,10 +32,6 @@ comes_step mul g power n seen y hp =
           ap (λ b. slice_index_or seen y false || elim b [ true ↦ true | false ↦ rest ]) (ne_eqb y power other)
           ∙ sym (ap (λ b. b || rest) (get_or-set_other seen power y true false other))
     ]
-  where
-    or_true : (b : Bool) → (b || true) ≡ true
-    or_true true = refl
-    or_true false = refl
 
 -- where none is marked
 pub comes_first : (mul : ℕ → ℕ → ℕ) (g power n q : ℕ) (y : ℕ) → comes mul g power n (replicate q false) y ≡ is_among y (powers_from mul g power n)

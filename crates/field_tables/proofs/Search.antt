@@ -1,7 +1,7 @@
 -- What the search words of `counting` say of the elements of a list.
 use Rattle.std.proofs.Common.{◌≡◌, ◌≢◌, ℕ, Bool, true, false, List, [], ◌∷◌, ◌++◌, Some, refl, ap, subst, sym, ◌∙◌, ◌<◌, ◌+◌, suc, zero, arith, inl, inr, length, drop, drop-cons, get_or}
 use Rattle.std.specs.Prelude.{nat_eq, ◌==◌}
-use Rattle.std.proofs.lemmas.Bool.{cases_eq, eq-eqb, ne_eqb, eqb-true}
+use Rattle.counting.proofs.Booleans.{cases_eq, eq-eqb, eqb-true, ne_eqb}
 use Rattle.counting.specs.Search.{first_in, each_passes, is_among}
 use Rattle.counting.specs.Sums.{join_below, list_below}
 use Rattle.design_base.specs.Fields.{order}

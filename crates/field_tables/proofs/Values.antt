@@ -5,7 +5,7 @@ use Rattle.std.proofs.Math.Nat.{mul-add-div_right, div-eq_of_lt, mul-le-mul_righ
 use Rattle.std.proofs.Math.ListN.{get_or-append}
 use Rattle.std.proofs.Math.Seq.{get_or-append_seam}
 use Rattle.std.proofs.lemmas.Nat.{mod-mul-add}
-use Rattle.std.proofs.lemmas.Bool.{cases_lt}
+use Rattle.counting.proofs.Booleans.{cases_lt}
 use Rattle.field_tables.specs.Tables.{IsValues, IsTable, by_rows}
 
 -- the row of a place

@@ -1,6 +1,6 @@
 -- Designs that are others under other words, lists joined, and designs of all points and of all pairs.
 use Rattle.std.proofs.Common.{List, [], ap₂, arith, inl, inr, refl, subst, sym, true, ℕ, ◌&&◌, ◌*◌, ◌++◌, ◌+◌, ◌-◌, ◌<◌, ◌∙◌, ◌∷◌, ◌≡◌, ◌≤◌, ◌⊎◌}
-use Rattle.std.proofs.lemmas.Bool.{and_from, and_parts}
+use Rattle.counting.proofs.Booleans.{and_from, both}
 use Rattle.std.proofs.lemmas.Bool.Decides.{nat_tests}
 use Rattle.std.proofs.lemmas.List.Elements.{All-append, All-from_recursion, All-weaker}
 use Rattle.counting.proofs.Counts.{one-true, pairs_one, sum_below-const, sum_below-same}
@@ -94,7 +94,7 @@ unfolding pairs_once pairs_with
 pairs_loose v = record {
   blocks = All-join_below (IsPointSet v (λ s. s ≡ 2)) v _ (λ y m. All-from_recursion (IsPointSet v (λ s. s ≡ 2)) _ (each_below (IsPointSet v (λ s. s ≡ 2)) y (λ x. x ∷ y ∷ []) (λ x l. pair_set v x y l m)));
   pairs = λ x y l m. cover-pairs v (λ p q. p ∷ q ∷ []) x y ∙ pairs_one v x y (λ p q. holds x (p ∷ q ∷ []) && holds y (p ∷ q ∷ [])) l m (and_from _ _ (holds_two-from x x y (inl refl)) (holds_two-from y x y (inr refl)))
-      (λ p q k h t. let ts = and_parts _ _ t in let a = holds_two x p q ts.0 in let b = holds_two y p q ts.1 in omega (arith, a, b));
+      (λ p q k h t. let ts = both _ _ t in let a = holds_two x p q ts.0 in let b = holds_two y p q ts.1 in omega (arith, a, b));
 }
 
 pub pairs_is_bibd : (v l : ℕ) → IsBibd (canonical (pair_blocks v l)) v 2 l

@@ -2,7 +2,7 @@
 use Rattle.std.proofs.Common.{List, arith, length, subst, sym, ℕ, ◌*◌, ◌++◌, ◌+◌, ◌-◌, ◌<◌, ◌≡◌, ◌≤◌}
 use Rattle.design_base.specs.Blocks.{IsBibd}
 use Rattle.design_base.specs.Canonical.{canonical}
-use Rattle.design_base.specs.declared.limits.TheConstants.{PACKED_MAX}
+use Rattle.design_base.specs.declared.limits.TheConstants.{COVER_MAX, PACKED_MAX}
 use Rattle.incidence.specs.Packed.{size_of}
 use Rattle.block_counts.specs.Counts.{complement_cover}
 use Rattle.gdd_pbd.proofs.BasicDesigns.{pairs_is_bibd, sum_is_bibd, whole_is_bibd}
@@ -29,7 +29,7 @@ sum_room v k l i B C can = omega (arith, bibd_size v k i B can.two can.points (o
 pub sum_design : (v k l i : ℕ) (B C rows : List (List ℕ)) → CanSum v k l i B C → rows ≡ canonical (B ++ C) → IsBibd rows v k l
 sum_design v k l i B C rows can is = subst (λ D. IsBibd D v k l) (sym is) (sum_is_bibd B C v k l i can.most can.first can.second)
 
-pub complement_room : (v k l : ℕ) (B : List (List ℕ)) → CanComplement v k l B → length B ≤ 6 * most_blocks
+pub complement_room : (v k l : ℕ) (B : List (List ℕ)) → CanComplement v k l B → length B ≤ COVER_MAX * most_blocks
 complement_room v k l B can = bibd_count v (v - k) (complement_cover v k l) B (omega (arith, can.left)) can.points can.covers can.design
 
 pub complement_design : (v k l : ℕ) (B rows : List (List ℕ)) → CanComplement v k l B → rows ≡ canonical (complement v B) → IsBibd rows v k l

@@ -1,10 +1,10 @@
 -- The complements of the blocks of a BIBD, and all points but one.
 use Rattle.std.proofs.Common.{Bool, List, ap, ap₂, arith, false, inl, inr, length, not, refl, subst, sym, true, ℕ, ◌%◌, ◌&&◌, ◌*◌, ◌+◌, ◌-◌, ◌/◌, ◌<◌, ◌==◌, ◌∙◌, ◌≡◌, ◌≤◌}
 use Rattle.std.proofs.Math.Nat.{div-add-mod', eq_of_mul-eq-mul_right, mul-pos}
-use Rattle.std.proofs.lemmas.Bool.{cases_lt}
+use Rattle.counting.proofs.Booleans.{both_equal, cases_lt, eqb-turn}
 use Rattle.std.proofs.lemmas.Bool.Decides.{nat_tests}
 use Rattle.std.proofs.lemmas.List.Elements.{All-from_recursion}
-use Rattle.counting.proofs.Counts.{both_equal, count_equal, one-false, sum_below-add, sum_below-const, sum_below-same}
+use Rattle.counting.proofs.Counts.{count_equal, one-false, sum_below-add, sum_below-const, sum_below-same}
 use Rattle.counting.proofs.Lists.{All-map_of, each_all, sum_by-add, sum_by-length, sum_by-map, sum_by-same}
 use Rattle.counting.proofs.Ranges.{each_below}
 use Rattle.counting.specs.Sums.{one}
@@ -160,12 +160,9 @@ module _ (v : ℕ) (two : 2 ≤ v) where
     sum_below-add v (λ x. one (not (x == z))) (λ x. one (x == z)),
     sum_below-same v (λ x. one (not (x == z)) + one (x == z)) (λ x. 1) (λ x m. other (x == z)),
     sum_below-const v 1,
-    sum_below-same v (λ x. one (x == z)) (λ x. one (z == x)) (λ x m. ap one (turn x z)),
+    sum_below-same v (λ x. one (x == z)) (λ x. one (z == x)) (λ x m. ap one (eqb-turn x z)),
     count_equal v z l,
   ))
-    where
-      turn : (x z : ℕ) → (x == z) ≡ (z == x)
-      turn x z = grind (arith, nat_tests)
 
   but_one_loose : IsLoose (all_but_one v v) v (λ s. s ≡ v - 1) (λ x y. v - 2)
   unfolding all_but_one

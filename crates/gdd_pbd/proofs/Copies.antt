@@ -1,6 +1,6 @@
 -- Groups are filled by copies over the blocks j, u, where j is the group and u the group of the one point more.
 use Rattle.std.proofs.Common.{List, [], ap, ap₂, arith, inl, inr, map, refl, sym, ℕ, ◌++◌, ◌+◌, ◌<◌, ◌∙◌, ◌∷◌, ◌≡◌}
-use Rattle.std.proofs.lemmas.Bool.{cases_lt}
+use Rattle.counting.proofs.Booleans.{cases_lt}
 use Rattle.std.proofs.lemmas.List.Elements.{recursion_from_All}
 use Rattle.std.specs.List.{AllByRecursion}
 use Rattle.std.specs.Prelude.{All}

@@ -2,7 +2,7 @@
 use Rattle.std.proofs.Common.{◌≡◌, ℕ, ◌+◌, ◌*◌, ◌<◌, ◌≢◌, Bool, true, not, List, [], refl, ap, ap₂, sym, subst, ◌∙◌, arith, inl, inr, ◌&&◌, ◌==◌, length, get_or}
 use Rattle.std.specs.Prelude.{All, filter, nat_lt}
 use Rattle.std.specs.List.{sum_by, position_or_len}
-use Rattle.std.proofs.lemmas.Bool.{cases_order, eqb-true, eq-eqb, lt-ltb, ltb-true, not-true, and_parts, and_from}
+use Rattle.counting.proofs.Booleans.{and_from, both, cases_order, eq-eqb, eqb-true, lt-ltb, ltb-true, not-true}
 use Rattle.std.proofs.Math.Nat.{eq_of_mul-eq-mul_left}
 use Rattle.std.proofs.lemmas.List.{length-map}
 use Rattle.std.proofs.lemmas.List.Elements.{All-from_recursion, recursion_from_All}
@@ -185,7 +185,7 @@ module _ (g u : ℕ) (B : List (List ℕ)) (pos : 0 < g) (bibd : IsBibd B (g * u
   -- only the group of the first point counts
   at_group : (c a y : ℕ) → c < u → a < g → sum_by (test (name c a) y) G ≡ test (name c a) y (get_or G c [])
   unfolding test
-  at_group c a y l m = sum_at (λ b. true) (test (name c a) y) G c [] (omega (arith, count)) (λ k h ne. one-false _ (λ e. ne (one_place (λ b. holds (name c a) b) G k c [] (in_one (name c a) (name_below c a l m)) h (omega (arith, count)) (and_parts _ _ e).0 (name_holds c a l m))))
+  at_group c a y l m = sum_at (λ b. true) (test (name c a) y) G c [] (omega (arith, count)) (λ k h ne. one-false _ (λ e. ne (one_place (λ b. holds (name c a) b) G k c [] (in_one (name c a) (name_below c a l m)) h (omega (arith, count)) (both _ _ e).0 (name_holds c a l m))))
 
   inside : (c a e : ℕ) → c < u → a < e → e < g → cover rest (name c a) (name c e) ≡ 0
   unfolding test
@@ -204,7 +204,7 @@ module _ (g u : ℕ) (B : List (List ℕ)) (pos : 0 < g) (bibd : IsBibd B (g * u
     arith,
     shared (name c a) (name d e) (name_below c a (omega arith) n) (name_below d e m o),
     at_group c a (name d e) (omega arith) n,
-    one-false (holds (name c a) (get_or G c []) && holds (name d e) (get_or G c [])) (λ f. omega (arith, one_place (λ b. holds (name d e) b) G c d [] (in_one (name d e) (name_below d e m o)) (omega (arith, count)) (omega (arith, count)) (and_parts _ _ f).1 (name_holds d e m o))),
+    one-false (holds (name c a) (get_or G c []) && holds (name d e) (get_or G c [])) (λ f. omega (arith, one_place (λ b. holds (name d e) b) G c d [] (in_one (name d e) (name_below d e m o)) (omega (arith, count)) (omega (arith, count)) (both _ _ f).1 (name_holds d e m o))),
     loose_pair (name c a) (name d e) (name_below c a (omega arith) n) (name_below d e m o) (λ f. omega (arith, group_of_name c a (omega arith) n, group_of_name d e m o, ap group_of f)),
   )
 

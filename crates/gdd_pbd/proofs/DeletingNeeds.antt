@@ -3,7 +3,7 @@ use Rattle.std.proofs.Common.{Bool, List, None, Some, ap, arith, inl, inr, lengt
 use Rattle.std.proofs.Math.Nat.{div-add-mod', mul-div_cancel_left}
 use Rattle.std.proofs.lemmas.List.Elements.{All-from_recursion, All-weaker, recursion_from_All}
 use Rattle.std.specs.List.{position_or_len}
-use Rattle.std.proofs.lemmas.Bool.{cases_lt}
+use Rattle.counting.proofs.Booleans.{cases_lt}
 use Rattle.std.proofs.lemmas.List.Sums.{prefix_len-le-length}
 use Rattle.std.proofs.lemmas.Grind.{common_steps}
 use Rattle.std.specs.Prelude.{All, position}

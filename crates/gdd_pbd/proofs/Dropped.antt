@@ -1,6 +1,6 @@
 -- A block design without its last point is a pairwise balanced design.
 use Rattle.std.proofs.Common.{Bool, List, ap₂, arith, false, inl, inr, length, sym, true, ℕ, ◌&&◌, ◌+◌, ◌<◌, ◌==◌, ◌∙◌, ◌≡◌, ◌⊎◌}
-use Rattle.std.proofs.lemmas.Bool.{lt-ltb, ltb-true}
+use Rattle.counting.proofs.Booleans.{lt-ltb, ltb-true}
 use Rattle.std.proofs.lemmas.Bool.Decides.{nat_tests}
 use Rattle.std.proofs.lemmas.List.Sums.{length-filter}
 use Rattle.std.specs.List.{AllByRecursion}

@@ -1,8 +1,8 @@
 -- Filling the groups of a GDD.
 use Rattle.std.proofs.Common.{List, ap, ap₂, arith, cond, inl, inr, refl, subst, sym, ℕ, ◌*◌, ◌+◌, ◌/◌, ◌<◌, ◌==◌, ◌∙◌, ◌≡◌, ◌≢◌, ◌⊎◌}
-use Rattle.std.proofs.Math.Nat.{mul-add-div_right}
+use Rattle.std.proofs.Math.Nat.{mul-add-div_right, mul_comm}
 use Rattle.std.proofs.lemmas.Nat.{div_below}
-use Rattle.std.proofs.lemmas.Bool.{cases_eq, eq-eqb, eqb-true, ne_eqb}
+use Rattle.counting.proofs.Booleans.{bool_same, cases_eq, eq-eqb, eqb-true, ne_eqb}
 use Rattle.std.proofs.lemmas.List.Elements.{All-append}
 use Rattle.counting.specs.Sums.{sum_below, join_below}
 use Rattle.design_base.specs.Blocks.{IsBibd, IsDesign, IsGdd, IsPbd, IsTd, across, cover}
@@ -10,7 +10,7 @@ use Rattle.design_base.specs.Canonical.{canonical}
 use Rattle.gdd_pbd.proofs.BasicDesigns.{design_same}
 use Rattle.design_base.specs.Arrays.{place}
 use Rattle.gdd_pbd.specs.Filling.{rename, fill}
-use Rattle.counting.proofs.Counts.{bool_same, sum_below-at, sum_below-zero}
+use Rattle.counting.proofs.Counts.{sum_below-at, sum_below-zero}
 use Rattle.design_base.proofs.Cover.{cover-append, cover-join_below, cover-turn}
 use Rattle.design_base.proofs.Canonical.{IsLoose, IsPointSet, design_from_loose, loose_from_design}
 use Rattle.counting.proofs.Ranges.{All-join_below}
@@ -82,14 +82,11 @@ fill_is_bibd g u k G D pos gdd design = design_from_loose (g * u) (λ s. s ≡ k
 
 -- a TD of s groups of t points, and a PBD on t points
 pub td_fill_is_pbd : (s t : ℕ) (T P : List (List ℕ)) → 0 < t → IsTd T s t → IsPbd P t s → IsPbd (canonical (fill t s T P)) (s * t) s
-td_fill_is_pbd s t T P pos td filler = subst (λ v. IsPbd (canonical (fill t s T P)) v s) (turned t s) (design_from_loose (t * s) Sizes (fill t s T P) (λ x y. 1)
+td_fill_is_pbd s t T P pos td filler = subst (λ v. IsPbd (canonical (fill t s T P)) v s) (mul_comm t s) (design_from_loose (t * s) Sizes (fill t s T P) (λ x y. 1)
     (ones t s Sizes T P pos (loose_from_design (t * s) Sizes T (across t) (design_same T (t * s) (λ z. z ≡ s) Sizes (across t) (across t) (λ z e. inl e) (λ x y l m. refl) td)) (loose_from_design t Sizes P (λ x y. 1) filler)))
   where
     Sizes : ℕ → Type 0
     Sizes z = (z ≡ s) ⊎ (z ≡ s + 1)
-
-    turned : (t s : ℕ) → t * s ≡ s * t
-    turned t s = omega arith
 
 -- ---- groups of g points inside groups of g * c points
 regroup : (j g c : ℕ) → j * (g * c) ≡ j * c * g

@@ -1,7 +1,7 @@
 -- Filling each group of a GDD together with one point more.
 use Rattle.std.proofs.Common.{◌≡◌, ℕ, ◌+◌, ◌*◌, ◌/◌, ◌%◌, ◌<◌, ◌≤◌, ◌≢◌, List, ◌⊎◌, refl, ap, ap₂, subst, sym, ◌∙◌, arith, inl, inr, ◌&&◌}
 use Rattle.std.specs.Prelude.{All}
-use Rattle.std.proofs.lemmas.Bool.{cases_lt, cases_eq, cond_below, cond_above, and_parts}
+use Rattle.counting.proofs.Booleans.{both, cases_eq, cases_lt, cond_above, cond_below}
 use Rattle.std.proofs.Math.Nat.{mod-lt}
 use Rattle.std.proofs.lemmas.Nat.{div_below}
 use Rattle.gdd_pbd.proofs.BasicDesigns.{design_same}
@@ -35,7 +35,7 @@ last-is g u = omega arith
 -- the points that no block of points below v reaches
 pub cover_outside : (v : ℕ) (Size : ℕ → Type 0) (B : List (List ℕ)) → All (IsPointSet v Size) B → (p q : ℕ) → v ≤ q → cover B p q ≡ 0
 cover_outside v Size B sets p q l = cover-is B p q ∙ sum_by-none (IsPointSet v Size) (λ b. one (holds p b && holds q b)) B sets
-    (λ b s. one-false _ (λ e. omega (arith, each_at (λ x. x < v) q b s.below (and_parts _ _ e).1)))
+    (λ b s. one-false _ (λ e. omega (arith, each_at (λ x. x < v) q b s.below (both _ _ e).1)))
 
 module _ (g u : ℕ) (Size : ℕ → Type 0) (G D : List (List ℕ)) (pos : 0 < g) (gdd : IsLoose G (g * u) Size (across g)) (design : IsLoose D (g + 1) Size (λ x y. 1)) where
   keeps : (j : ℕ) → j < u → KeepsApart (g + 1) (with_point g u j)

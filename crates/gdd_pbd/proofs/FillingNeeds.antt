@@ -1,6 +1,6 @@
 -- What the conditions of fillings give: room for the loops, the blocks, and the design.
 use Rattle.std.proofs.Common.{List, ap, arith, subst, sym, ℕ, ◌*◌, ◌++◌, ◌%◌, ◌+◌, ◌/◌, ◌<◌, ◌∙◌, ◌≡◌, ◌≤◌, suc, zero}
-use Rattle.std.proofs.Math.Nat.{div-add-mod'}
+use Rattle.std.proofs.Math.Nat.{div-add-mod', mul_comm}
 use Rattle.std.proofs.lemmas.List.Elements.{All-weaker}
 use Rattle.std.proofs.lemmas.Nat.{mul-le}
 use Rattle.std.specs.Prelude.{All}
@@ -27,7 +27,7 @@ fill_groups : (g u w : ℕ) (G D : List (List ℕ)) → 0 < g → 0 < u → g * 
 fill_groups g u w G D some groups points l master design = let most : u ≤ POINTS_MAX = omega (arith, factor g u some) in record {
   some = some;
   points = omega (arith, factor u g groups, points);
-  groups = most;
+  groups = omega (arith, mul_comm u g, points);
   fits = wider w (2 * g) D l design.fits;
   room = omega (arith, master.size, mul-le u (size_of D) POINTS_MAX most_size most design.size);
 }
@@ -89,15 +89,12 @@ module _ (k g u c : ℕ) (G D : List (List ℕ)) (can : CanSplit k g u c G D) wh
   pub split_design : (rows : List (List ℕ)) → rows ≡ canonical (G ++ groups_of (g * c) (u / c) D (u / c)) → IsGdd rows k g u
   split_design rows is = subst (λ h. IsGdd rows k g h) (parts_of u c can.whole) (subst (λ B. IsGdd B k g (c * (u / c))) (sym (split_blocks rows is)) (split_is_gdd g c (u / c) k G D can.some can.parts can.master can.filler))
 
-turned : (a b : ℕ) → a * b ≡ b * a
-turned a b = omega arith
-
 module _ (s t : ℕ) (T P : List (List ℕ)) (can : CanTdFill s t T P) where
   group_small : IsSmall t P
   group_small = small_pbd t s P can.two (omega (arith, can.points, factor s t (omega (arith, can.two)))) can.group
 
   pub td_fill_small : CanFillGroups t s T P
-  td_fill_small = fill_groups t s t T P can.some (omega (arith, can.two)) (omega (arith, turned t s, can.points)) (omega arith) (small_gdd s t s T can.two (omega (arith, turned t s, can.points)) can.td) group_small
+  td_fill_small = fill_groups t s t T P can.some (omega (arith, can.two)) (omega (arith, mul_comm t s, can.points)) (omega arith) (small_gdd s t s T can.two (omega (arith, mul_comm t s, can.points)) can.td) group_small
 
   pub td_fill_blocks : (rows : List (List ℕ)) → rows ≡ canonical (T ++ groups_of t s P s) → rows ≡ canonical (fill t s T P)
   td_fill_blocks rows is = is ∙ ap canonical (sym (fill_by_groups t s T P can.some group_small.fits))
@@ -113,10 +110,10 @@ module _ (s c t : ℕ) (T P : List (List ℕ)) (can : CanTdFillWithPoint s c t T
   group_with_point_small = small_pbd (t + 1) s P can.two (omega (arith, can.points, factor c t (omega (arith, two_groups)))) can.group
 
   pub td_fill_with_point_small : CanFillGroups t c T P
-  td_fill_with_point_small = fill_groups t c (t + 1) T P can.some (omega (arith, two_groups)) (omega (arith, turned t c, can.points)) (omega (arith, can.some)) (small_gdd c t c T two_groups (omega (arith, turned t c, can.points)) can.td) group_with_point_small
+  td_fill_with_point_small = fill_groups t c (t + 1) T P can.some (omega (arith, two_groups)) (omega (arith, mul_comm t c, can.points)) (omega (arith, can.some)) (small_gdd c t c T two_groups (omega (arith, mul_comm t c, can.points)) can.td) group_with_point_small
 
   pub td_fill_with_point_blocks : (rows : List (List ℕ)) → rows ≡ canonical (T ++ groups_of t c P c) → rows ≡ canonical (fill_with_point t c T P)
   td_fill_with_point_blocks rows is = is ∙ ap canonical (sym (fill_with_point_by_groups t c T P can.some group_with_point_small.fits))
 
   pub td_fill_with_point_design : (rows : List (List ℕ)) → rows ≡ canonical (T ++ groups_of t c P c) → IsPbd rows (c * t + 1) s
-  td_fill_with_point_design rows is = subst (λ n. IsPbd rows (n + 1) s) (turned t c) (subst (λ B. IsPbd B (t * c + 1) s) (sym (td_fill_with_point_blocks rows is)) (td_fill_with_point_is_pbd s t c T P can.some can.groups can.td can.group))
+  td_fill_with_point_design rows is = subst (λ n. IsPbd rows (n + 1) s) (mul_comm t c) (subst (λ B. IsPbd B (t * c + 1) s) (sym (td_fill_with_point_blocks rows is)) (td_fill_with_point_is_pbd s t c T P can.some can.groups can.td can.group))

@@ -1,7 +1,7 @@
 -- A BIBD from a PBD and smaller BIBDs.
 use Rattle.std.proofs.Common.{List, arith, inl, inr, refl, subst, sym, ℕ, ◌*◌, ◌+◌, ◌<◌, ◌==◌, ◌∙◌, ◌≡◌, ◌≢◌, ◌⊎◌, cond}
 use Rattle.std.specs.Prelude.{All}
-use Rattle.std.proofs.lemmas.Bool.{eq-eqb, ne_eqb}
+use Rattle.counting.proofs.Booleans.{eq-eqb, ne_eqb}
 use Rattle.design_base.proofs.Canonical.{IsLoose, IsPointSet, design_from_loose, loose_from_design}
 use Rattle.design_base.proofs.Places.{across-apart, across-inside, by_places}
 use Rattle.design_base.specs.Blocks.{IsBibd, IsGdd, IsPbd, across, cover}

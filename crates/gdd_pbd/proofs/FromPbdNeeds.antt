@@ -1,5 +1,6 @@
 -- What the conditions of a PBD that becomes a BIBD give.
 use Rattle.std.proofs.Common.{List, ap, ap₂, arith, length, subst, sym, ℕ, ◌*◌, ◌++◌, ◌+◌, ◌-◌, ◌<◌, ◌∙◌, ◌≡◌, ◌≤◌, ◌⊎◌}
+use Rattle.std.proofs.Math.Nat.{mul_comm}
 use Rattle.std.proofs.lemmas.List.Elements.{All-from_recursion, All-weaker}
 use Rattle.std.specs.Prelude.{All}
 use Rattle.design_base.proofs.Canonical.{IsPointSet}
@@ -47,13 +48,10 @@ module _ (n s k : ℕ) (P C D : List (List ℕ)) (can : CanPbdToBibd n s k P C D
   pbd_small = small_pbd n s P can.blocks few can.pbd
 
   pub extend_points : (0 < k - 1) × (k - 1 + 1 ≤ POINTS_MAX)
-  extend_points = (some, omega (arith, can.points, factor n (k - 1) can.groups, turn n (k - 1)))
-    where
-      turn : (n w : ℕ) → n * w ≡ w * n
-      turn n w = omega arith
+  extend_points = (some, omega (arith, can.points, factor n (k - 1) can.groups, mul_comm n (k - 1)))
 
-  pub extend_groups : n ≤ POINTS_MAX
-  extend_groups = few
+  pub extend_groups : n * (k - 1) ≤ POINTS_MAX
+  extend_groups = omega (arith, can.points, mul_comm n (k - 1))
 
   pub extend_count : length P ≤ most_blocks
   extend_count = pbd_small.count
@@ -69,7 +67,7 @@ module _ (n s k : ℕ) (P C D : List (List ℕ)) (can : CanPbdToBibd n s k P C D
     extend_sizes = (first_small.size, second_small.size)
 
     pub extend_replace : All (CanReplace (k - 1) s E F) P
-    extend_replace = can_replace (k - 1) s n (λ z. (z ≡ s) ⊎ (z ≡ s + 1)) E F P few (λ z e. chosen_fits (k - 1) s z E F first_small.fits second_small.fits e) can.pbd.blocks
+    extend_replace = can_replace (k - 1) s n (λ z. (z ≡ s) ⊎ (z ≡ s + 1)) E F P extend_groups (λ z e. chosen_fits (k - 1) s z E F first_small.fits second_small.fits e) can.pbd.blocks
 
   pub extend_blocks : (E F rows : List (List ℕ)) → E ≡ canonical (delete_last (k - 1) s C) → F ≡ canonical (delete_last (k - 1) (s + 1) D)
       → rows ≡ canonical (weighted (k - 1) (chosen s E F) P ++ groups_of (k - 1) n (whole_blocks (k - 1 + 1) 1) n) → rows ≡ canonical (from_pbd (k - 1) n s P C D)

@@ -1,6 +1,6 @@
 -- The numbers below a bound that pass a test, as a block.
 use Rattle.std.proofs.Common.{Bool, List, [], ap, ap₂, arith, cond, false, inl, inr, length, refl, sym, true, zero, suc, ℕ, ◌&&◌, ◌++◌, ◌+◌, ◌<◌, ◌==◌, ◌||◌, ◌∙◌, ◌∷◌, ◌≡◌, ◌≢◌, ◌≤◌}
-use Rattle.std.proofs.lemmas.Bool.{and_right, cases_eq, cond_both, eq-eqb, ne_eqb, or_from}
+use Rattle.counting.proofs.Booleans.{and_right, and_true, cases_eq, cond_both, eq-eqb, ne_eqb, or_false, or_from}
 use Rattle.std.proofs.lemmas.List.{append-nil, length-append}
 use Rattle.std.specs.List.{AllByRecursion}
 use Rattle.counting.proofs.Lists.{each-push, each-weaker}
@@ -10,16 +10,8 @@ use Rattle.design_base.proofs.Cover.{holds-append, holds-cons, holds-none}
 use Rattle.design_base.specs.Blocks.{holds}
 use Rattle.gdd_pbd.specs.Basic.{kept}
 
-or_none : (q : Bool) → (q || false) ≡ q
-or_none true = refl
-or_none false = refl
-
-and_all : (q : Bool) → (q && true) ≡ q
-and_all true = refl
-and_all false = refl
-
 piece_holds : (x z : ℕ) (t : Bool) → holds x (cond t (z ∷ []) []) ≡ (t && (z == x))
-piece_holds x z true = holds-cons x z [] ∙ ap (λ q. (z == x) || q) (holds-none x) ∙ or_none (z == x)
+piece_holds x z true = holds-cons x z [] ∙ ap (λ q. (z == x) || q) (holds-none x) ∙ or_false (z == x)
 piece_holds x z false = holds-none x
 
 kept_above : (n x : ℕ) (p : ℕ → Bool) → n ≤ x → holds x (kept n p) ≡ false
@@ -31,8 +23,8 @@ pub holds-kept : (n x : ℕ) (p : ℕ → Bool) → x < n → holds x (kept n p)
 unfolding kept join_below
 holds-kept zero x p l = absurd (omega arith)
 holds-kept (suc n) x p l = holds-append x (kept n p) (cond (p n) (n ∷ []) []) ∙ elim (cases_eq x n) [
-  | inl e ↦ rw e (ap₂ (λ s t. s || t) (kept_above n n p (omega arith)) (piece_holds n n (p n)) ∙ ap (λ t. p n && t) (eq-eqb n n refl) ∙ and_all (p n))
-  | inr ne ↦ ap₂ (λ s t. s || t) (holds-kept n x p (omega arith)) (piece_holds x n (p n) ∙ and_right _ _ (ne_eqb n x (λ e. ne (sym e)))) ∙ or_none (p x)
+  | inl e ↦ rw e (ap₂ (λ s t. s || t) (kept_above n n p (omega arith)) (piece_holds n n (p n)) ∙ ap (λ t. p n && t) (eq-eqb n n refl) ∙ and_true (p n))
+  | inr ne ↦ ap₂ (λ s t. s || t) (holds-kept n x p (omega arith)) (piece_holds x n (p n) ∙ and_right _ _ (ne_eqb n x (λ e. ne (sym e)))) ∙ or_false (p x)
 ]
 
 wider : (n : ℕ) (b : List ℕ) → AllByRecursion (λ x. x < n) b → AllByRecursion (λ x. x < suc n) b

@@ -1,11 +1,11 @@
 -- How many blocks a design has, and how many points they have together.
 use Rattle.std.proofs.Common.{Bool, List, ap, arith, cond, false, inl, inr, length, suc, true, zero, ℕ, ◌*◌, ◌+◌, ◌/◌, ◌<◌, ◌==◌, ◌≡◌, ◌≤◌, ◌⊎◌}
-use Rattle.std.proofs.lemmas.Bool.{cases_order, eq-eqb}
+use Rattle.counting.proofs.Booleans.{cases_order, eq-eqb}
 use Rattle.std.proofs.lemmas.List.Elements.{All-weaker, recursion_from_All}
 use Rattle.std.proofs.lemmas.Nat.{mul-le}
 use Rattle.std.specs.List.{sum_by}
 use Rattle.std.specs.Prelude.{All}
-use Rattle.counting.proofs.Counts.{count_equal, one-true, sum_below-add, sum_below-const, sum_below-le, sum_below-mul}
+use Rattle.counting.proofs.Counts.{count_equal, one-most, one-true, sum_below-add, sum_below-const, sum_below-le, sum_below-mul}
 use Rattle.counting.proofs.Lists.{each-weaker, sum_by-add, sum_by-le, sum_by-mul-one}
 use Rattle.counting.specs.Sums.{one}
 use Rattle.design_base.proofs.Cover.{cover-turn}
@@ -15,14 +15,9 @@ use Rattle.incidence.specs.Packed.{size_of}
 use Rattle.block_counts.proofs.Flags.{cover-self, covers_of_point, points_of_block, replication-is, replications}
 use Rattle.gdd_pbd.specs.Room.{FitsIn, most_blocks, most_size}
 
-one_most : (b : Bool) → one b ≤ 1
-unfolding one
-one_most true = omega arith
-one_most false = omega arith
-
 -- a block has at most all points
 pub block_short : (v : ℕ) (Size : ℕ → Type 0) (b : List ℕ) → IsBlock v Size b → length b ≤ v
-block_short v Size b s = omega (arith, points_of_block v Size b s, sum_below-le v (λ y. one (holds y b)) (λ y. 1) (λ y l. one_most (holds y b)), sum_below-const v 1)
+block_short v Size b s = omega (arith, points_of_block v Size b s, sum_below-le v (λ y. one (holds y b)) (λ y. 1) (λ y l. one-most (holds y b)), sum_below-const v 1)
 
 module _ (v l : ℕ) (Size : ℕ → Type 0) (want : ℕ → ℕ → ℕ) (B : List (List ℕ)) (two : (s : ℕ) → Size s → 2 ≤ s) (most : (x y : ℕ) → want x y ≤ l) (design : IsDesign B v Size want) where
   each : (x y : ℕ) → x < v → y < v → cover B x y ≤ l + replication B x * one (x == y)
@@ -33,7 +28,7 @@ module _ (v l : ℕ) (Size : ℕ → Type 0) (want : ℕ → ℕ → ℕ) (B : L
   ]
 
   doubled : (b : List ℕ) → IsBlock v Size b → (x : ℕ) → one (holds x b) + one (holds x b) ≤ one (holds x b) * length b
-  doubled b s x = pick (one (holds x b)) (length b) (two (length b) s.size) (one_most (holds x b))
+  doubled b s x = pick (one (holds x b)) (length b) (two (length b) s.size) (one-most (holds x b))
     where
       pick : (o n : ℕ) → 2 ≤ n → o ≤ 1 → o + o ≤ o * n
       pick zero n t m = omega arith
@@ -88,7 +83,7 @@ pub record IsSmall (v : ℕ) (B : List (List ℕ)) : Type 0 where
   pub count : length B ≤ most_blocks
   pub fits : All (FitsIn v) B
 
-square_most : (v : ℕ) → v ≤ POINTS_MAX → v * v ≤ 16384
+square_most : (v : ℕ) → v ≤ POINTS_MAX → v * v ≤ POINTS_MAX * POINTS_MAX
 square_most v l = mul-le v v POINTS_MAX POINTS_MAX l l
 
 small_design : (v : ℕ) (Size : ℕ → Type 0) (want : ℕ → ℕ → ℕ) (B : List (List ℕ)) → ((s : ℕ) → Size s → 2 ≤ s) → ((x y : ℕ) → want x y ≤ 1) → v ≤ POINTS_MAX → IsDesign B v Size want → IsSmall v B
@@ -108,8 +103,8 @@ pub small_pbd : (v s : ℕ) (B : List (List ℕ)) → 2 ≤ s → v ≤ POINTS_M
 small_pbd v s B two points design = small_design v (λ z. (z ≡ s) ⊎ (z ≡ s + 1)) (λ x y. 1) B (λ z e. omega arith) (λ x y. omega arith) points design
 
 -- and up to the most blocks through two points
-pub bibd_size : (v k l : ℕ) (B : List (List ℕ)) → 2 ≤ k → v ≤ POINTS_MAX → l ≤ COVER_MAX → IsBibd B v k l → size_of B ≤ 6 * most_size
-bibd_size v k l B two points most design = omega (arith, size_most v l (λ s. s ≡ k) (λ x y. l) B (λ s e. omega arith) (λ x y. omega arith) design, mul-le l (v * v) COVER_MAX 16384 most (square_most v points))
+pub bibd_size : (v k l : ℕ) (B : List (List ℕ)) → 2 ≤ k → v ≤ POINTS_MAX → l ≤ COVER_MAX → IsBibd B v k l → size_of B ≤ COVER_MAX * most_size
+bibd_size v k l B two points most design = omega (arith, size_most v l (λ s. s ≡ k) (λ x y. l) B (λ s e. omega arith) (λ x y. omega arith) design, mul-le l (v * v) COVER_MAX (POINTS_MAX * POINTS_MAX) most (square_most v points))
 
-pub bibd_count : (v k l : ℕ) (B : List (List ℕ)) → 2 ≤ k → v ≤ POINTS_MAX → l ≤ COVER_MAX → IsBibd B v k l → length B ≤ 6 * most_blocks
-bibd_count v k l B two points most design = omega (arith, blocks_most v l (λ s. s ≡ k) (λ x y. l) B (λ s e. omega arith) (λ x y. omega arith) design, mul-le l (v * v) COVER_MAX 16384 most (square_most v points))
+pub bibd_count : (v k l : ℕ) (B : List (List ℕ)) → 2 ≤ k → v ≤ POINTS_MAX → l ≤ COVER_MAX → IsBibd B v k l → length B ≤ COVER_MAX * most_blocks
+bibd_count v k l B two points most design = omega (arith, blocks_most v l (λ s. s ≡ k) (λ x y. l) B (λ s e. omega arith) (λ x y. omega arith) design, mul-le l (v * v) COVER_MAX (POINTS_MAX * POINTS_MAX) most (square_most v points))

@@ -1,10 +1,11 @@
 -- The steps of the loops that write blocks: what there is before the first, and what one more adds.
 use Rattle.std.proofs.Common.{Bool, List, Some, [], add-one, ap, ap₂, arith, cond, false, inl, inr, length, map, not, refl, slice_set, subst, suc, sym, take, true, zero, ℕ, ◌*◌, ◌++◌, ◌+◌, ◌<◌, ◌==◌, ◌∙◌, ◌∷◌, ◌≡◌, ◌≢◌, ◌≤◌, get_or}
-use Rattle.std.proofs.lemmas.Bool.{cases_Bool, cond-false, cond-true, eq-eqb, lt-ltb, ne_eqb}
+use Rattle.std.proofs.Math.Nat.{mul-le-mul_right}
+use Rattle.counting.proofs.Booleans.{cases_Bool, cond-false, cond-true, eq-eqb, le-ltb, lt-ltb, ne_eqb}
 use Rattle.std.proofs.lemmas.Bool.Decides.{nat_tests}
 use Rattle.std.proofs.lemmas.List.{append-nil, append_assoc, get_or-map, map-append, take_more, take_more_set}
-use Rattle.std.proofs.lemmas.List.Elements.{filter-append}
-use Rattle.std.specs.Prelude.{filter, nat_lt, slice_get}
+use Rattle.std.proofs.lemmas.List.Elements.{All-from_recursion, filter-append}
+use Rattle.std.specs.Prelude.{All, filter, nat_lt, slice_get}
 use Rattle.incidence.proofs.Walk.{take_next}
 use Rattle.counting.proofs.Counts.{join_below_more, join_below_none}
 use Rattle.counting.specs.Sums.{join_below, list_below}
@@ -14,6 +15,13 @@ use Rattle.gdd_pbd.specs.Deleting.{below_point, groups_at, renamed_rest}
 use Rattle.gdd_pbd.specs.Weighting.{chosen, weighted}
 use Rattle.gdd_pbd.specs.Filling.{groups_of, place_by, rename}
 use Rattle.gdd_pbd.specs.Basic.{all_but_one, complement, kept, missing, omitted, pair_blocks, pairs_once, pairs_with, whole_blocks}
+
+-- groups that stand before others
+pub groups_within : (j m g n : ℕ) → j ≤ m → m * g ≤ n → j * g ≤ n
+groups_within j m g n l h = omega (arith, mul-le-mul_right g l, h)
+
+pub pair_within : (j m g n : ℕ) → j ≤ m → m * g ≤ n → All (λ x. x * g ≤ n) (j ∷ m ∷ [])
+pair_within j m g n l h = All-from_recursion (λ x. x * g ≤ n) (j ∷ m ∷ []) (groups_within j m g n l h, (h, tt))
 
 -- a number written at the end of the numbers so far
 pub front_more : (row : List ℕ) (j x : ℕ) → j < length row → take (j + 1) (slice_set row j x) ≡ take j row ++ x ∷ []
@@ -122,11 +130,8 @@ front-none v = refl
 pub front-kept : (v i x : ℕ) (b : List ℕ) → slice_get b i ≡ Some x → x < v → filter (λ x. nat_lt x v) (take (i + 1) b) ≡ filter (λ x. nat_lt x v) (take i b) ++ x ∷ []
 front-kept v i x b is l = ap (filter (λ x. nat_lt x v)) (take_next b i x is) ∙ filter-append (λ x. nat_lt x v) (take i b) (x ∷ []) ∙ ap (λ t. filter (λ x. nat_lt x v) (take i b) ++ t) (cond-true (nat_lt x v) _ _ (lt-ltb x v l))
 
-not_below : (x v : ℕ) → v ≤ x → nat_lt x v ≡ false
-not_below x v l = grind (arith, nat_tests)
-
 pub front-dropped : (v i x : ℕ) (b : List ℕ) → slice_get b i ≡ Some x → v ≤ x → filter (λ x. nat_lt x v) (take (i + 1) b) ≡ filter (λ x. nat_lt x v) (take i b)
-front-dropped v i x b is l = ap (filter (λ x. nat_lt x v)) (take_next b i x is) ∙ filter-append (λ x. nat_lt x v) (take i b) (x ∷ []) ∙ ap (λ t. filter (λ x. nat_lt x v) (take i b) ++ t) (cond-false (nat_lt x v) _ _ (not_below x v l)) ∙ append-nil (filter (λ x. nat_lt x v) (take i b))
+front-dropped v i x b is l = ap (filter (λ x. nat_lt x v)) (take_next b i x is) ∙ filter-append (λ x. nat_lt x v) (take i b) (x ∷ []) ∙ ap (λ t. filter (λ x. nat_lt x v) (take i b) ++ t) (cond-false (nat_lt x v) _ _ (le-ltb x v l)) ∙ append-nil (filter (λ x. nat_lt x v) (take i b))
 
 pub below_point-none : (v : ℕ) → below_point v [] ≡ []
 unfolding below_point

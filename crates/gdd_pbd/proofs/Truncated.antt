@@ -1,7 +1,7 @@
 -- A transversal design with one truncated group, its groups filled, is a pairwise balanced design.
 use Rattle.std.proofs.Common.{None, Option, Some, ◌≡◌, ℕ, ◌+◌, ◌*◌, ◌<◌, ◌≤◌, ◌≢◌, List, ◌⊎◌, refl, ap, ap₂, subst, sym, ◌∙◌, arith, inl, inr, ◌&&◌, length, map, get_or, add-one}
 use Rattle.std.specs.Prelude.{All, filter, nat_lt}
-use Rattle.std.proofs.lemmas.Bool.{cases_lt, cases_eq, ltb-true, lt-ltb}
+use Rattle.counting.proofs.Booleans.{cases_eq, cases_lt, lt-ltb, ltb-true}
 use Rattle.std.proofs.lemmas.List.Elements.{All-append, All-nil}
 use Rattle.std.proofs.lemmas.List.Sums.{length-filter}
 use Rattle.counting.specs.Sums.{one, sum_below, join_below, list_below}

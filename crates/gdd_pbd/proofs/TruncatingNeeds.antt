@@ -1,5 +1,5 @@
 -- What the conditions of truncated transversal designs give.
-use Rattle.std.proofs.Common.{List, None, Option, Some, ap, arith, subst, sym, ℕ, ◌*◌, ◌++◌, ◌+◌, ◌<◌, ◌∙◌, ◌≡◌, ◌≤◌}
+use Rattle.std.proofs.Common.{List, None, Option, Some, ap, arith, subst, sym, ℕ, ◌*◌, ◌++◌, ◌+◌, ◌/◌, ◌<◌, ◌∙◌, ◌≡◌, ◌≤◌}
 use Rattle.std.proofs.lemmas.List.{append_assoc}
 use Rattle.std.proofs.lemmas.List.Elements.{All-weaker}
 use Rattle.std.specs.Prelude.{All, IfSome}
@@ -26,13 +26,13 @@ last_design_fits s t u T P (Some Q) can = let small = small_pbd u s Q can.two (o
 }
 
 module _ (s t u : ℕ) (T P : List (List ℕ)) (rest : Option (List (List ℕ))) (can : CanTruncatePbd s t u T P rest) where
-  columns_most : s ≤ 64
+  columns_most : s ≤ POINTS_MAX / 2
   columns_most = omega (arith, can.points, mul-le s 2 s t (omega arith) can.some)
 
-  rows_most : t ≤ 64
+  rows_most : t ≤ POINTS_MAX / 2
   rows_most = omega (arith, can.points, mul-le 2 t s t can.two (omega arith))
 
-  all_points : t * (s + 1) ≤ 192
+  all_points : t * (s + 1) ≤ POINTS_MAX + POINTS_MAX / 2
   all_points = omega (arith, can.points, rows_most, expand t s)
     where
       expand : (t s : ℕ) → t * (s + 1) ≡ s * t + t
@@ -42,7 +42,7 @@ module _ (s t u : ℕ) (T P : List (List ℕ)) (rest : Option (List (List ℕ)))
   td_size = omega (
     arith,
     size_most (t * (s + 1)) 1 (λ z. z ≡ s + 1) (across t) T (λ z e. omega (arith, can.two)) (across_most t) can.td,
-    mul-le (t * (s + 1)) (t * (s + 1)) 192 192 all_points all_points,
+    mul-le (t * (s + 1)) (t * (s + 1)) (POINTS_MAX + POINTS_MAX / 2) (POINTS_MAX + POINTS_MAX / 2) all_points all_points,
   )
 
   points_most : t ≤ POINTS_MAX
@@ -54,8 +54,8 @@ module _ (s t u : ℕ) (T P : List (List ℕ)) (rest : Option (List (List ℕ)))
   pub cut_weight : (0 < t) × (t ≤ POINTS_MAX)
   cut_weight = (omega (arith, can.some), points_most)
 
-  pub cut_groups : s ≤ POINTS_MAX
-  cut_groups = omega (arith, columns_most)
+  pub cut_groups : s * t ≤ POINTS_MAX
+  cut_groups = omega (arith, can.points)
 
   pub cut_short : All IsShort T
   cut_short = All-weaker (IsBlock (t * (s + 1)) (λ z. z ≡ s + 1)) IsShort (λ b f. omega (arith, f.size, columns_most)) T can.td.blocks

@@ -1,7 +1,7 @@
 -- What the conditions of weights give.
 use Rattle.std.proofs.Common.{List, [], ap, ap₂, arith, inl, inr, length, refl, subst, sym, ℕ, ◌*◌, ◌++◌, ◌+◌, ◌/◌, ◌<◌, ◌∙◌, ◌∷◌, ◌≡◌, ◌≢◌, ◌≤◌, ◌⊎◌}
-use Rattle.std.proofs.Math.Nat.{div-add-mod'}
-use Rattle.std.proofs.lemmas.Bool.{cases_eq}
+use Rattle.std.proofs.Math.Nat.{div-add-mod', mul_comm}
+use Rattle.counting.proofs.Booleans.{cases_eq}
 use Rattle.std.proofs.lemmas.List.Elements.{All-weaker}
 use Rattle.std.specs.Prelude.{All}
 use Rattle.design_base.specs.Blocks.{IsBlock, IsGdd}
@@ -10,7 +10,7 @@ use Rattle.design_base.specs.declared.limits.TheConstants.{POINTS_MAX}
 use Rattle.incidence.specs.Packed.{size_of}
 use Rattle.gdd_pbd.proofs.Sizes.{IsSmall, small_gdd}
 use Rattle.gdd_pbd.proofs.FillingNeeds.{factor}
-use Rattle.gdd_pbd.proofs.Steps.{chosen-first, chosen-second}
+use Rattle.gdd_pbd.proofs.Steps.{chosen-first, chosen-second, groups_within}
 use Rattle.gdd_pbd.proofs.Weighted.{weight_is_gdd}
 use Rattle.gdd_pbd.specs.Conditions.{CanWeight}
 use Rattle.gdd_pbd.specs.Room.{CanReplace, FitsIn, most_blocks, most_size}
@@ -24,9 +24,9 @@ chosen_size s z C D l m = elim (cases_eq z s) [
 ]
 
 -- the blocks of a design can be replaced where there is an ingredient for each size
-pub can_replace : (w s n : ℕ) (Size : ℕ → Type 0) (C D G : List (List ℕ)) → n ≤ POINTS_MAX → ((z : ℕ) → Size z → All (FitsIn (z * w)) (chosen s C D z)) → All (IsBlock n Size) G → All (CanReplace w s C D) G
+pub can_replace : (w s n : ℕ) (Size : ℕ → Type 0) (C D G : List (List ℕ)) → n * w ≤ POINTS_MAX → ((z : ℕ) → Size z → All (FitsIn (z * w)) (chosen s C D z)) → All (IsBlock n Size) G → All (CanReplace w s C D) G
 can_replace w s n Size C D G points fits blocks = All-weaker (IsBlock n Size) (CanReplace w s C D) (λ b t. record {
-  points = All-weaker (λ x. x < n) (λ x. x ≤ POINTS_MAX) (λ x l. omega arith) b t.below;
+  points = All-weaker (λ x. x < n) (λ x. x * w ≤ POINTS_MAX) (λ x l. groups_within x n w POINTS_MAX (omega arith) points) b t.below;
   fits = fits (length b) t.size;
 }) G blocks
 
@@ -52,11 +52,14 @@ module _ (k g u w s : ℕ) (G D : List (List ℕ)) (can : CanWeight k g u w s G 
   parts : g / w * w ≡ g
   parts = omega (arith, div-add-mod' g w, can.whole)
 
-  master_points : g / w * u ≤ POINTS_MAX
-  master_points = omega (arith, can.points, factor w (g / w * u) can.some, regroup (g / w) u w, ap (λ n. n * u) parts)
+  all_points : g / w * u * w ≤ POINTS_MAX
+  all_points = omega (arith, can.points, regroup (g / w) u w, ap (λ n. n * u) parts)
     where
-      regroup : (a u w : ℕ) → w * (a * u) ≡ a * w * u
+      regroup : (a u w : ℕ) → a * u * w ≡ a * w * u
       regroup a u w = omega arith
+
+  master_points : g / w * u ≤ POINTS_MAX
+  master_points = omega (arith, all_points, factor w (g / w * u) can.some, mul_comm (g / w * u) w)
 
   master_small : IsSmall (g / w * u) G
   master_small = small_gdd s (g / w) u G can.blocks master_points can.master
@@ -65,13 +68,10 @@ module _ (k g u w s : ℕ) (G D : List (List ℕ)) (can : CanWeight k g u w s G 
   ingredient_small = small_gdd k w s D can.two can.inner can.ingredient
 
   pub weight_points : (0 < w) × (w ≤ POINTS_MAX)
-  weight_points = (can.some, omega (arith, can.inner, can.blocks, factor s w (omega (arith, can.blocks)), turn w s))
-    where
-      turn : (w s : ℕ) → w * s ≡ s * w
-      turn w s = omega arith
+  weight_points = (can.some, omega (arith, can.inner, can.blocks, factor s w (omega (arith, can.blocks)), mul_comm w s))
 
   pub weight_replace : All (CanReplace w s D D) G
-  weight_replace = can_replace w s (g / w * u) (λ z. z ≡ s) D D G master_points (λ z e. subst (All (FitsIn (z * w))) (sym (chosen_same s z D)) (turned_fits w s z D e ingredient_small.fits)) can.master.blocks
+  weight_replace = can_replace w s (g / w * u) (λ z. z ≡ s) D D G all_points (λ z e. subst (All (FitsIn (z * w))) (sym (chosen_same s z D)) (turned_fits w s z D e ingredient_small.fits)) can.master.blocks
 
   pub weight_size : size_of D ≤ most_size
   weight_size = ingredient_small.size

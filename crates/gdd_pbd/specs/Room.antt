@@ -1,5 +1,5 @@
 -- What the loops need: blocks that fit into a row, and room for them.
-use Rattle.std.specs.Prelude.{All, List, [], false, length, slice_index_or, ℕ, ◌*◌, ◌+◌, ◌<◌, ◌≡◌, ◌≤◌}
+use Rattle.std.specs.Prelude.{All, List, [], false, length, slice_index_or, ℕ, ◌*◌, ◌+◌, ◌/◌, ◌<◌, ◌≡◌, ◌≤◌}
 use Rattle.design_base.specs.Blocks.{IsBibd, holds}
 use Rattle.design_base.specs.declared.limits.TheConstants.{PACKED_MAX, POINTS_MAX}
 use Rattle.incidence.specs.Packed.{size_of}
@@ -8,10 +8,10 @@ use Rattle.gdd_pbd.specs.Weighting.{chosen}
 
 -- the most blocks of a design on POINTS_MAX points in which two points stand together once at most, and the most numbers that it takes
 abbrev pub most_blocks : ℕ
-most_blocks = 8192
+most_blocks = POINTS_MAX * POINTS_MAX / 2
 
 abbrev pub most_size : ℕ
-most_size = 24576
+most_size = 3 * (POINTS_MAX * POINTS_MAX) / 2
 
 -- not longer than the longest block
 abbrev pub IsShort : List ℕ → Type 0
@@ -31,13 +31,13 @@ pub record FitsGroup (t : ℕ) (Q : List (List ℕ)) : Type 0 where
 pub record CanFillGroups (g u : ℕ) (G D : List (List ℕ)) : Type 0 where
   pub some : 0 < g
   pub points : g ≤ POINTS_MAX
-  pub groups : u ≤ POINTS_MAX
+  pub groups : u * g ≤ POINTS_MAX
   pub fits : All (FitsIn (2 * g)) D
   pub room : size_of G + u * size_of D < PACKED_MAX
 
 -- the block's points are points of a design, and the ingredient for so many points fits into the groups of w points
 pub record CanReplace (w s : ℕ) (C D : List (List ℕ)) (block : List ℕ) : Type 0 where
-  pub points : All (λ x. x ≤ POINTS_MAX) block
+  pub points : All (λ x. x * w ≤ POINTS_MAX) block
   pub fits : All (FitsIn (length block * w)) (chosen s C D (length block))
 
 -- u groups of g points and one point more, of a BIBD

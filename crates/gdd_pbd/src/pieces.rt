@@ -100,7 +100,7 @@ pub fn push_fronts(rows: &mut Rows, v: u16, design: &Rows) -> Result<(), Memory>
 #[tactic(auto, unfolding(crate::specs::Filling::place_by, design_base::specs::Arrays::place))]
 fn point(w: u16, block: &[u16], p: u16) -> u16
     requires weight { (0 < w) × (w ≤ POINTS_MAX) }
-    requires points { All (λ x. x ≤ POINTS_MAX) block.now }
+    requires points { All (λ x. x * w ≤ POINTS_MAX) block.now }
     requires within { p < length block.now * w }
     ensures { result ≡ place_by w block.now p }
 {
@@ -111,7 +111,7 @@ fn point(w: u16, block: &[u16], p: u16) -> u16
 #[tactic(auto, using(crate::proofs::Steps::steps))]
 fn push_copy(rows: &mut Rows, w: u16, block: &[u16], piece: &[u16]) -> Result<(), Memory>
     requires weight { (0 < w) × (w ≤ POINTS_MAX) }
-    requires points { All (λ x. x ≤ POINTS_MAX) block.now }
+    requires points { All (λ x. x * w ≤ POINTS_MAX) block.now }
     requires fits { FitsIn (length block.now * w) piece.now }
     requires room { size_of rows.old + length piece.now + 1 < PACKED_MAX }
     ensures ok { OnOk result (rows.new ≡ rows.old ++ map (place_by w block.now) piece.now ∷ []) }
@@ -128,7 +128,7 @@ fn push_copy(rows: &mut Rows, w: u16, block: &[u16], piece: &[u16]) -> Result<()
 #[tactic(auto, using(crate::proofs::Steps::steps))]
 pub fn push_copies(rows: &mut Rows, w: u16, block: &[u16], design: &Rows) -> Result<(), Memory>
     requires weight { (0 < w) × (w ≤ POINTS_MAX) }
-    requires points { All (λ x. x ≤ POINTS_MAX) block.now }
+    requires points { All (λ x. x * w ≤ POINTS_MAX) block.now }
     requires fits { All (FitsIn (length block.now * w)) design.now }
     requires room { size_of rows.old + size_of design.now < PACKED_MAX }
     ensures ok { OnOk result (rows.new ≡ rows.old ++ rename (place_by w block.now) design.now) }
@@ -144,7 +144,7 @@ pub fn push_copies(rows: &mut Rows, w: u16, block: &[u16], design: &Rows) -> Res
 #[tactic(auto, using(crate::proofs::Steps::steps))]
 pub fn push_in_groups(rows: &mut Rows, g: u16, u: u16, m: u16, design: &Rows) -> Result<(), Memory>
     requires weight { (0 < g) × (g ≤ POINTS_MAX) }
-    requires groups { (u ≤ POINTS_MAX) × (m ≤ u) }
+    requires groups { (u * g ≤ POINTS_MAX) × (m ≤ u) }
     requires fits { All (FitsIn (2 * g)) design.now }
     requires room { size_of rows.old + m * size_of design.now < PACKED_MAX }
     ensures ok { OnOk result (rows.new ≡ rows.old ++ groups_of g u design.now m) }

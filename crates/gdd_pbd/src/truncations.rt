@@ -20,7 +20,7 @@ use std::alloc::Global;
 #[tactic(auto, using(crate::proofs::Copies::group_plain, crate::proofs::FillingNeeds::wider))]
 fn push_in_group(rows: &mut Rows, g: u16, j: u16, design: &Rows) -> Result<(), Memory>
     requires weight { (0 < g) × (g ≤ POINTS_MAX) }
-    requires group { j ≤ POINTS_MAX }
+    requires group { j * g ≤ POINTS_MAX }
     requires fits { FitsGroup g design.now }
     requires room { size_of rows.old + most_size < PACKED_MAX }
     ensures { OnOk result (rows.new ≡ rows.old ++ rename (place g j) design.now) }
@@ -31,7 +31,7 @@ fn push_in_group(rows: &mut Rows, g: u16, j: u16, design: &Rows) -> Result<(), M
 // Appends the blocks of a design on group j, where there is a design.
 fn push_last(rows: &mut Rows, g: u16, j: u16, last: Option<&Rows>) -> Result<(), Memory>
     requires weight { (0 < g) × (g ≤ POINTS_MAX) }
-    requires group { j ≤ POINTS_MAX }
+    requires group { j * g ≤ POINTS_MAX }
     requires fits { IfSome (option_copied last) (FitsGroup g) }
     requires room { size_of rows.old + most_size < PACKED_MAX }
     ensures { OnOk result (rows.new ≡ rows.old ++ last_group g j (option_copied last.entry)) }
@@ -54,7 +54,7 @@ fn cut(
     last: Option<&Rows>,
 ) -> Result<Rows, Memory>
     requires weight { (0 < t) × (t ≤ POINTS_MAX) }
-    requires groups { s ≤ POINTS_MAX }
+    requires groups { s * t ≤ POINTS_MAX }
     requires short { All IsShort td.now }
     requires sizes { (size_of td.now ≤ 6 * most_size) × (size_of group.now ≤ most_size) }
     requires fits { All (FitsIn (2 * t)) group.now }

@@ -164,7 +164,7 @@ fn extended(
     requires replace { All (CanReplace w s small.now large.now) pbd.now }
     requires sizes { (size_of small.now ≤ most_size) × (size_of large.now ≤ most_size) }
     requires count { length pbd.now ≤ most_blocks }
-    requires groups { n ≤ POINTS_MAX }
+    requires groups { n * w ≤ POINTS_MAX }
     ensures { IfOk result (λ rows. rows ≡ canonical (weighted_by w (chosen s small.now large.now) pbd.now ++ groups_of w n (whole_blocks (w + 1) 1) n)) }
 {
     let block = line(alloc, w)?;

@@ -1,10 +1,10 @@
 -- The points of a plane over a field of 2 ^ s elements at which a form without roots has a value below M: a line holds M of them or none.
 use Rattle.std.proofs.Common.{Bool, List, ap, ap₂, arith, cond, get_or, inl, inr, length, refl, suc, sym, true, ℕ, ◌%◌, ◌&&◌, ◌*◌, ◌+◌, ◌-◌, ◌/◌, ◌<◌, ◌==◌, ◌^◌, ◌∙◌, ◌≡◌, ◌≢◌, ◌≤◌}
 use Rattle.std.proofs.Math.Nat.{add-mul-div_left, add-mul-mod_self_left, div-eq_of_lt, mod-eq_of_lt, mod-lt, pow-suc, pow-zero}
-use Rattle.std.proofs.lemmas.Bool.{and_parts, cases_Bool, eq-eqb, eqb-true, false≢true, ltb-true}
+use Rattle.counting.proofs.Booleans.{bool_same, both, cases_Bool, eq-eqb, eqb-true, false≢true, ltb-true}
 use Rattle.std.specs.List.{AllByRecursion, sum_by}
 use Rattle.std.specs.Prelude.{nat_lt}
-use Rattle.counting.proofs.Counts.{bool_same, one-false, one-true, sum_below-at, sum_below-same, sum_below-turn}
+use Rattle.counting.proofs.Counts.{one-false, one-true, sum_below-at, sum_below-same, sum_below-turn}
 use Rattle.counting.proofs.Lists.{each-weaker, one-and, sum_by-mul, sum_by-same, sum_by-sum_below}
 use Rattle.counting.proofs.OnePlace.{filter_sum}
 use Rattle.counting.specs.Sums.{list_below, one, sum_below}
@@ -66,7 +66,7 @@ lead_first q z e = ap (λ t. cond (t == 0) (first_nonzero (digits q 2 (z / q))) 
 
 pub on_arc_first : (add mul : ℕ → ℕ → ℕ) (q c M z : ℕ) → is_on_arc add mul q c M z ≡ true → z % q ≡ 1
 unfolding is_on_arc
-on_arc_first add mul q c M z h = eqb-true (z % q) 1 (and_parts (z % q == 1) (nat_lt (quadratic add mul c (z / q % q) (z / q / q % q)) M) h).0
+on_arc_first add mul q c M z h = eqb-true (z % q) 1 (both (z % q == 1) (nat_lt (quadratic add mul c (z / q % q) (z / q / q % q)) M) h).0
 
 module _ (q : ℕ) (add mul : ℕ → ℕ → ℕ) (field : IsField q add mul) where
   abbrev r : IsCommutativeRing q add mul
@@ -169,7 +169,7 @@ module _ (q : ℕ) (add mul : ℕ → ℕ → ℕ) (field : IsField q add mul) w
 
     value : (z : ℕ) → curve z ≡ true → quadratic add mul c (z / q % q) (z / q / q % q) < M
     unfolding is_on_arc
-    value z h = ltb-true _ M (and_parts (z % q == 1) (nat_lt (quadratic add mul c (z / q % q) (z / q / q % q)) M) h).1
+    value z h = ltb-true _ M (both (z % q == 1) (nat_lt (quadratic add mul c (z / q % q) (z / q / q % q)) M) h).1
 
     lead_one : (z : ℕ) → curve z ≡ true → lead q 3 z ≡ 1
     lead_one z h = lead_first q z (first_one z h)
@@ -207,7 +207,7 @@ module _ (q : ℕ) (add mul : ℕ → ℕ → ℕ) (field : IsField q add mul) w
 
     pub sections : (i j : ℕ) → i < j → j < length P → curve (at i) ≡ true → curve (at j) ≡ true → sum_below (length P) (λ u. one (curve (at u) && holds (at u) (plane_of (at i) (at j)))) ≡ M
     sections i j l m hi hj =
-        over_vectors q 3 (λ z. curve z && holds z (plane_of (at i) (at j))) (λ z e. lead_one z (and_parts _ _ e).0)
+        over_vectors q 3 (λ z. curve z && holds z (plane_of (at i) (at j))) (λ z e. lead_one z (both _ _ e).0)
         ∙ section (at i) (at j) (point_at q add mul field 3 i (omega arith)).small (point_at q add mul field 3 j m).small
         (λ e. absurd (omega (arith, points_apart q 3 i j (omega arith) m e))) hi hj
 

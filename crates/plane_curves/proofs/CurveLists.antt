@@ -1,6 +1,6 @@
 -- The lines of two listed points of a curve are the traces of the plane's lines.
 use Rattle.std.proofs.Common.{Bool, List, [], ◌∷◌, ap, ap₂, arith, cond, get_or, length, map, refl, sym, true, ℕ, ◌&&◌, ◌<◌, ◌^◌, ◌∙◌, ◌≡◌}
-use Rattle.std.proofs.lemmas.Bool.{cond_both}
+use Rattle.counting.proofs.Booleans.{cond_both}
 use Rattle.std.proofs.lemmas.Grind.{same_number_lists}
 use Rattle.std.proofs.lemmas.List.{get_or-map, length-map}
 use Rattle.std.proofs.lemmas.List.Elements.{All-from_recursion}

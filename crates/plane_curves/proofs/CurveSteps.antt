@@ -1,7 +1,7 @@
 -- How the points of curves are listed, number by number.
 use Rattle.std.proofs.Common.{Bool, List, [], ap, arith, cond, false, inl, inr, refl, suc, sym, true, ℕ, ◌&&◌, ◌++◌, ◌+◌, ◌-◌, ◌<◌, ◌==◌, ◌^◌, ◌∙◌, ◌∷◌, ◌≡◌, ◌≢◌, ◌≤◌}
 use Rattle.std.proofs.Math.Nat.{pow-le-pow_left, pow-le-pow_right}
-use Rattle.std.proofs.lemmas.Bool.{and_parts, cases_eq, eq-eqb, eqb-true}
+use Rattle.counting.proofs.Booleans.{both, cases_eq, eq-eqb, eqb-true}
 use Rattle.std.proofs.lemmas.List.{append-nil, map-append}
 use Rattle.std.proofs.lemmas.List.Elements.{filter-append}
 use Rattle.std.specs.Prelude.{filter, map}
@@ -9,6 +9,7 @@ use Rattle.counting.proofs.Ranges.{join_below-same}
 use Rattle.counting.specs.Search.{upward}
 use Rattle.counting.specs.Sums.{list_below}
 use Rattle.design_base.specs.Fields.{has_field}
+use Rattle.design_base.specs.declared.limits.TheConstants.{POINTS_MAX}
 use Rattle.field_tables.proofs.Listed.{listed_small}
 use Rattle.spaces.proofs.Bounds.{order_above}
 use Rattle.spaces.proofs.PointSteps.{points_below-left, points_below-none, points_below-taken}
@@ -40,7 +41,7 @@ module _ (q : ℕ) (curve : ℕ → Bool) where
   curve_points-off z none = elim (cases_eq (lead q 3 z) 1) [ inl one ↦ off z one none | inr ne ↦ curve_points-left z ne ]
 
   pub point-taken : (z : ℕ) → (lead q 3 z == 1 && curve z) ≡ true → curve_points q curve (z + 1) ≡ curve_points q curve z ++ entries q z ∷ []
-  point-taken z e = let h = and_parts (lead q 3 z == 1) (curve z) e in curve_points-taken z (eqb-true _ _ h.0) h.1
+  point-taken z e = let h = both (lead q 3 z == 1) (curve z) e in curve_points-taken z (eqb-true _ _ h.0) h.1
 
   pub point-left : (z : ℕ) → (lead q 3 z == 1 && curve z) ≡ false → curve_points q curve (z + 1) ≡ curve_points q curve z
   point-left z e = elim (cases_eq (lead q 3 z) 1) [
@@ -53,8 +54,8 @@ arc-taken q add mul c bound z e = curve_points-taken q (is_on_arc add mul q c bo
 
 pub cube_fits : (q : ℕ) → has_field q ≡ true → q ^ 3 < 2 ^ 32
 cube_fits q listed =
-    let small : q ≤ 128 = omega (arith, listed_small q listed) in
-    let more : q ^ 3 ≤ 128 ^ 3 = pow-le-pow_left small 3 in omega (arith, more)
+    let small : q ≤ POINTS_MAX = omega (arith, listed_small q listed) in
+    let more : q ^ 3 ≤ POINTS_MAX ^ 3 = pow-le-pow_left small 3 in omega (arith, more)
 
 -- the numbers below q
 pub upward_all : (q : ℕ) → 0 < q → upward 0 (q - 1) ≡ list_below q (λ x. x)

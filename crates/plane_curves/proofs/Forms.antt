@@ -1,16 +1,16 @@
 -- The quadratic form x ^ 2 + x * y + c * y ^ 2 over a field in which 1 + 1 is 0, where x ^ 2 + x + c has no root.
 use Rattle.std.proofs.Common.{ap, ap₂, arith, inl, inr, refl, subst, sym, ℕ, ◌*◌, ◌+◌, ◌-◌, ◌<◌, ◌==◌, ◌∙◌, ◌≡◌, ◌≢◌, ◌≤◌, ◌⊎◌}
 use Rattle.std.proofs.Math.Nat.{pos_of_ne-zero}
-use Rattle.std.proofs.lemmas.Bool.{cases_Bool, cases_eq, cases_lt, eq-eqb, eqb-true, false≢true, lt-ltb, ltb-true}
+use Rattle.counting.proofs.Booleans.{bool_same, cases_Bool, cases_eq, cases_lt, eq-eqb, eqb-true, false≢true, lt-ltb, ltb-true}
 use Rattle.std.specs.Prelude.{nat_lt}
-use Rattle.counting.proofs.Counts.{bool_same, count_none, count_one, one-false, one-true, sum_below-add, sum_below-const, sum_below-same, sum_below-turn, sum_below-zero}
+use Rattle.counting.proofs.Counts.{count_none, count_one, one-false, one-true, sum_below-add, sum_below-const, sum_below-le, sum_below-same, sum_below-turn, sum_below-zero}
 use Rattle.counting.specs.Sums.{one, sum_below}
 use Rattle.design_base.specs.Rings.{IsCommutativeRing, IsField}
 use Rattle.field_tables.proofs.AnyField.{distribute_right, divide, divide_once, mul-zero, mul_cancel, no_zero_divisors, products_left, sums_left}
 use Rattle.spaces.proofs.LinearSpaces.{least_below}
 use Rattle.plane_curves.specs.Curves.{quadratic}
 use Rattle.counting.proofs.ButOne.{sum_below-plus}
-use Rattle.counting.proofs.Totals.{count_few, each_most, sum_below-le, sum_below-moved, sum_below-single}
+use Rattle.counting.proofs.Totals.{count_few, each_most, sum_below-moved, sum_below-single}
 
 module _ (q : ℕ) (add mul : ℕ → ℕ → ℕ) (field : IsField q add mul) (two : add 1 1 ≡ 0) where
   abbrev r : IsCommutativeRing q add mul

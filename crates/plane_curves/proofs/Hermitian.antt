@@ -1,7 +1,7 @@
 -- The form x_0 * conj y_0 + x_1 * conj y_1 + x_2 * conj y_2 over a field with a conjugation.
 use Rattle.std.proofs.Common.{ap, ap₂, arith, inl, inr, sym, ℕ, ◌<◌, ◌==◌, ◌∙◌, ◌≡◌, ◌≢◌, ◌⊎◌}
 use Rattle.std.proofs.Math.Nat.{pos_of_ne-zero}
-use Rattle.std.proofs.lemmas.Bool.{cases_eq}
+use Rattle.counting.proofs.Booleans.{cases_eq}
 use Rattle.counting.proofs.Counts.{sum_below-same}
 use Rattle.counting.specs.Sums.{one, sum_below}
 use Rattle.design_base.specs.Rings.{IsCommutativeRing, IsField}

@@ -3,7 +3,7 @@
 use Rattle.std.proofs.Common.{Bool, None, Option, Some, ap, arith, false, length, refl, subst, sym, true, ℕ, ◌*◌, ◌+◌, ◌-◌, ◌<◌, ◌^◌, ◌∙◌, ◌≡◌, ◌≢◌, ◌≤◌}
 use Rattle.std.proofs.Math.Nat.{one-le-pow, pow-le-pow_right}
 use Rattle.std.proofs.lemmas.Nat.{pow-add}
-use Rattle.std.proofs.lemmas.Bool.{and_parts, eq-eqb, eqb-true, false≢true, ltb-true}
+use Rattle.counting.proofs.Booleans.{both, eq-eqb, eqb-true, false≢true, ltb-true}
 use Rattle.std.specs.Prelude.{All, List, is_some, nat_lt, not, ◌&&◌, ◌==◌}
 use Rattle.counting.specs.Search.{each_passes, first_in}
 use Rattle.counting.specs.Sums.{join_below, list_below}
@@ -85,13 +85,13 @@ module _ (r s : ℕ) (some : 1 ≤ r) (less : r < s) (few : s ≤ 7) where
 
   parts : (is_even add mul q ≡ true) × (each_passes (λ r. is_closed add (2 ^ r)) (list_below s (λ r. r)) ≡ true)
   unfolding add mul q
-  parts = and_parts (is_even (field_sum (2 ^ s)) (field_product (2 ^ s)) (2 ^ s)) _ (even_field s (omega arith) few).1
+  parts = both (is_even (field_sum (2 ^ s)) (field_product (2 ^ s)) (2 ^ s)) _ (even_field s (omega arith) few).1
 
   facts : (add 1 1 ≡ 0) × (c < q) × (is_rootless add mul q c ≡ true)
   unfolding c
   facts =
-      let a = and_parts (add 1 1 == 0) (nat_lt (least_rootless add mul q) q && is_rootless add mul q (least_rootless add mul q)) parts.0 in
-      let b = and_parts (nat_lt (least_rootless add mul q) q) (is_rootless add mul q (least_rootless add mul q)) a.1 in
+      let a = both (add 1 1 == 0) (nat_lt (least_rootless add mul q) q && is_rootless add mul q (least_rootless add mul q)) parts.0 in
+      let b = both (nat_lt (least_rootless add mul q) q) (is_rootless add mul q (least_rootless add mul q)) a.1 in
       (eqb-true (add 1 1) 0 a.0, ltb-true (least_rootless add mul q) q b.0, b.1)
 
   closed : (x y : ℕ) → x < M → y < M → add x y < M

@@ -2,7 +2,7 @@
 -- many elements have the trace 0, and how many points there are.
 use Rattle.std.proofs.Common.{Bool, None, Option, Some, ap, arith, false, get_or, length, refl, subst, suc, sym, true, zero, ℕ, ◌*◌, ◌+◌, ◌-◌, ◌<◌, ◌^◌, ◌∙◌, ◌≡◌, ◌≤◌}
 use Rattle.std.proofs.Math.Nat.{pos_of_ne-zero}
-use Rattle.std.proofs.lemmas.Bool.{and_parts, eqb-true}
+use Rattle.counting.proofs.Booleans.{both, eqb-true}
 use Rattle.std.specs.Prelude.{All, List, is_some, ◌&&◌, ◌==◌}
 use Rattle.counting.proofs.Counts.{sum_below-same}
 use Rattle.counting.proofs.OnePlace.{filter_sum}
@@ -86,9 +86,9 @@ module _ (q : ℕ) (add mul : ℕ → ℕ → ℕ) (field : IsField q add mul) w
       passes_below (λ x. power mul (power mul x p) p == x && each_passes (λ y. power mul (add x y) p == add (power mul x p) (power mul y p)) (list_below q (λ y. y))) q (λ x. x) h in
       record {
         below = λ x. power_small x p;
-        sums = λ x y lx ly. eqb-true _ _ (passes_below (λ y. power mul (add x y) p == add (power mul x p) (power mul y p)) q (λ y. y) (and_parts _ _ (at x lx)).1 y ly);
+        sums = λ x y lx ly. eqb-true _ _ (passes_below (λ y. power mul (add x y) p == add (power mul x p) (power mul y p)) q (λ y. y) (both _ _ (at x lx)).1 y ly);
         products = λ x y. power-mul x y p;
-        twice = λ x lx. eqb-true _ _ (and_parts _ _ (at x lx)).0;
+        twice = λ x lx. eqb-true _ _ (both _ _ (at x lx)).0;
       }
 
 points_counted : (q p : ℕ) (add mul : ℕ → ℕ → ℕ) → length (points_on (is_power_zero add mul q (p + 1)) (points q 3)) ≡ count_points add mul q p
@@ -136,8 +136,8 @@ module _ (p : ℕ) (two : 2 ≤ p) (few : p ≤ 5) where
   facts : (conjugates add mul q p ≡ true) × (kernel_size add mul q p ≡ p) × (count_points add mul q p ≡ p ^ 3 + 1)
   unfolding q
   facts =
-      let a = and_parts (conjugates add mul q p) (kernel_size add mul q p == p && count_points add mul q p == p ^ 3 + 1) (order_known p two few).1 in
-      let b = and_parts (kernel_size add mul q p == p) (count_points add mul q p == p ^ 3 + 1) a.1 in
+      let a = both (conjugates add mul q p) (kernel_size add mul q p == p && count_points add mul q p == p ^ 3 + 1) (order_known p two few).1 in
+      let b = both (kernel_size add mul q p == p) (count_points add mul q p == p ^ 3 + 1) a.1 in
       (a.0, eqb-true _ _ b.0, eqb-true _ _ b.1)
 
   vectors3 : IsSpace q (q ^ 3) add mul (vector_sum add q 3) (multiple mul q 3)

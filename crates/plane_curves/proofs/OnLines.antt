@@ -1,8 +1,7 @@
 -- The vectors on the line of two points are those with which the determinant of the three is 0.
 use Rattle.std.proofs.Common.{ap, ap₂, arith, inl, inr, subst, sym, true, ℕ, ◌<◌, ◌^◌, ◌∙◌, ◌≡◌, ◌≢◌}
 use Rattle.std.proofs.Math.Nat.{pos_of_ne-zero}
-use Rattle.std.proofs.lemmas.Bool.{cases_eq, eq-eqb, eqb-true}
-use Rattle.counting.proofs.Counts.{bool_same}
+use Rattle.counting.proofs.Booleans.{bool_same, cases_eq, eq-eqb, eqb-true}
 use Rattle.design_base.specs.Blocks.{holds}
 use Rattle.design_base.specs.Rings.{IsCommutativeRing, IsField}
 use Rattle.field_tables.proofs.AnyField.{add_cancel, difference, distribute_right, divide, mul-zero, mul_cancel, products_left, sums_left}

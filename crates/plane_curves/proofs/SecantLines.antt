@@ -1,11 +1,11 @@
 -- The lines that hold two points of a curve are listed once each, where a line holds k of the points or at most one.
 use Rattle.std.proofs.Common.{Bool, List, [], ◌∷◌, ap, ap₂, arith, cond, get_or, inl, inr, length, refl, subst, sym, true, ℕ, ◌&&◌, ◌<◌, ◌^◌, ◌∙◌, ◌≡◌, ◌≢◌, ◌≤◌}
-use Rattle.std.proofs.lemmas.Bool.{and_from, cond_both, leb-true, le-leb}
+use Rattle.counting.proofs.Booleans.{and_from, bool_same, cond_both, le-leb, leb-true}
 use Rattle.std.proofs.lemmas.List.Elements.{All-from_recursion, recursion_from_All}
 use Rattle.std.specs.Cmp.Lexicographic.{pointwise, same_text}
 use Rattle.std.specs.List.{AllByRecursion, dedup, dedup_from}
 use Rattle.std.specs.Prelude.{filter, map, nat_eq, nat_le}
-use Rattle.counting.proofs.Counts.{bool_same, one-true}
+use Rattle.counting.proofs.Counts.{one-true}
 use Rattle.counting.proofs.Lists.{all_filter, each_map}
 use Rattle.counting.proofs.Ranges.{All-join_below, each_below}
 use Rattle.counting.proofs.Sorting.{each-sort_by}

@@ -3,14 +3,14 @@
 use Rattle.std.proofs.Common.{Bool, List, [], ◌∷◌, ap, arith, get_or, inl, inr, length, subst, suc, sym, true, zero, ℕ, ◌&&◌, ◌*◌, ◌+◌, ◌<◌, ◌^◌, ◌∙◌, ◌≡◌, ◌≤◌, ◌⊎◌}
 use Rattle.std.proofs.Math.Nat.{one-le-pow}
 use Rattle.std.proofs.Math.Path.{fun_ext}
-use Rattle.std.proofs.lemmas.Bool.{and_parts, cases_Bool, false≢true}
+use Rattle.counting.proofs.Booleans.{bool_same, both, cases_Bool, false≢true}
 use Rattle.std.proofs.lemmas.List.Elements.{All-from_recursion, recursion_from_All}
 use Rattle.std.proofs.lemmas.List.Kept.{AllPairs-from_increasing, IsStrictlyIncreasing-filter}
 use Rattle.std.proofs.lemmas.List.Sums.{sum_by-cons}
 use Rattle.std.specs.List.{sum_by}
 use Rattle.std.specs.List.Sorted.{IsStrictlyIncreasing}
 use Rattle.std.specs.Prelude.{All, filter, nat_le}
-use Rattle.counting.proofs.Counts.{bool_same, one-false, one-true, sum_below-none, sum_below-same, sum_below-suc, sum_below-zero}
+use Rattle.counting.proofs.Counts.{one-false, one-true, sum_below-none, sum_below-same, sum_below-suc, sum_below-zero}
 use Rattle.counting.proofs.Lists.{all_filter, each_map, one-and, sum_by-length}
 use Rattle.counting.proofs.OnePlace.{filter_sum}
 use Rattle.counting.proofs.Ranges.{All-join_below, each_below, get_or-list_below, length-list_below}
@@ -135,8 +135,8 @@ module _ (q : ℕ) (add mul : ℕ → ℕ → ℕ) (field : IsField q add mul) (
     cut x y l m = elim (two_pass N (λ u. curve (at u) && holds (at u) (plane (at x) (at y)))) [
       | inl few ↦ inl (omega (arith, part_size (plane (at x) (at y)), few))
       | inr t ↦
-          let hi = and_parts (curve (at t.0)) (holds (at t.0) (plane (at x) (at y))) t.4 in
-          let hj = and_parts (curve (at t.1)) (holds (at t.1) (plane (at x) (at y))) t.5 in
+          let hi = both (curve (at t.0)) (holds (at t.0) (plane (at x) (at y))) t.4 in
+          let hj = both (curve (at t.1)) (holds (at t.1) (plane (at x) (at y))) t.5 in
           let alike = same_span q v add mul sum scale vectors (lead q n) (is_lead q add mul field n) (at x) (at y) (at t.0) (at t.1) (point_at y m) (point_at t.0 (omega (arith, t.2, t.3))) (point_at t.1 t.3)
           (λ e. absurd (omega (arith, t.2, points_apart q n t.0 t.1 (omega (arith, t.2, t.3)) t.3 e))) (in_plane (at x) (at y) (at t.0) hi.1) (in_plane (at x) (at y) (at t.1) hj.1) in
           inr (part_size (plane (at x) (at y)) ∙ sum_below-same N _ _ (λ u h. ap (λ b. one (curve (at u) && b)) (bool_same _ _

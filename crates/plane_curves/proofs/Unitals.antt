@@ -1,8 +1,8 @@
 -- The points of a plane at which a Hermitian form is 0: a line holds one of them or p + 1.
 use Rattle.std.proofs.Common.{Bool, List, ap, ap₂, arith, cond, get_or, inl, inr, length, refl, suc, sym, true, ℕ, ◌%◌, ◌&&◌, ◌*◌, ◌+◌, ◌/◌, ◌<◌, ◌==◌, ◌^◌, ◌∙◌, ◌≡◌, ◌≢◌}
-use Rattle.std.proofs.lemmas.Bool.{cases_lt, eq-eqb, eqb-true, ne_eqb}
+use Rattle.counting.proofs.Booleans.{bool_same, cases_lt, eq-eqb, eqb-true, ne_eqb}
 use Rattle.std.specs.List.{sum_by}
-use Rattle.counting.proofs.Counts.{bool_same, one-true, sum_below-same, sum_below-suc}
+use Rattle.counting.proofs.Counts.{one-true, sum_below-same, sum_below-suc}
 use Rattle.counting.proofs.Lists.{one-and}
 use Rattle.counting.specs.Sums.{one, sum_below}
 use Rattle.design_base.specs.Blocks.{IsBibd, cover, holds}

@@ -1,10 +1,12 @@
 -- What the designs on curves ask of their numbers.
-use Rattle.std.specs.Prelude.{ℕ, ◌+◌, ◌-◌, ◌^◌, ◌<◌, ◌≤◌}
+use Rattle.std.specs.Prelude.{true, ℕ, ◌+◌, ◌-◌, ◌^◌, ◌<◌, ◌≡◌, ◌≤◌}
+use Rattle.design_base.specs.Fields.{has_field}
 use Rattle.design_base.specs.declared.limits.TheConstants.{POINTS_MAX}
 
--- the Hermitian curve over the field of q * q elements: that order is listed wherever the points are few enough
+-- the Hermitian curve over the field of q * q elements
 pub record CanBuildUnital (q : ℕ) : Type 0 where
   pub order : 2 ≤ q
+  pub listed : has_field (q ^ 2) ≡ true
   pub points : q ^ 3 + 1 ≤ POINTS_MAX
 
 -- the number of points of the arc

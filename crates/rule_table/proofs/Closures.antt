@@ -5,7 +5,7 @@ use Rattle.std.specs.List.{list_any, AllByRecursion}
 use Rattle.std.specs.Cmp.{nat_cmp_total}
 use Rattle.std.specs.FinSet as set
 use Rattle.std.specs.Ordering.{nat_cmp}
-use Rattle.std.proofs.lemmas.Bool.{cond_both}
+use Rattle.counting.proofs.Booleans.{cond_both, or_turn}
 use Rattle.std.proofs.lemmas.Bool.Decides.{nat_tests}
 use Rattle.std.proofs.Math.Path.{ap₂}
 use Rattle.counting.specs.Sorting.{insert_by, sort_by}
@@ -45,11 +45,6 @@ reached_unfolds q b =
 
 -- what passes a test, once and in order
 
-or_swap : (a b c : Bool) → (a || (b || c)) ≡ (b || (a || c))
-or_swap true true c = refl
-or_swap true false c = refl
-or_swap false b c = refl
-
 or_same : (a b : Bool) → (a ≡ true → b ≡ true) → (a || b) ≡ b
 or_same true b h = sym (h refl)
 or_same false b h = refl
@@ -60,7 +55,7 @@ module _ (test : Query → Bool) (le : Query → Query → Bool) where
   any-insert_by q [] = refl
   any-insert_by q (p ∷ ps) =
       cond_both (le q p) (q ∷ (p ∷ ps)) (p ∷ insert_by le q ps) (λ xs. list_any test xs ≡ (test q || (test p || list_any test ps))) (λ e. refl)
-      (λ e. ap (λ b. test p || b) (any-insert_by q ps) ∙ or_swap (test p) (test q) (list_any test ps))
+      (λ e. ap (λ b. test p || b) (any-insert_by q ps) ∙ or_turn (test p) (test q) (list_any test ps))
 
   any-sort_by : (ps : List Query) → list_any test (sort_by le ps) ≡ list_any test ps
   unfolding sort_by

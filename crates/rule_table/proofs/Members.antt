@@ -2,9 +2,8 @@
 use Rattle.std.proofs.Common.{◌≡◌, ℕ, zero, suc, ◌-◌, Bool, true, false, ◌&&◌, List, [], ◌∷◌, ◌++◌, arith, refl, map, length, ap, sym, subst, ◌∙◌}
 use Rattle.std.specs.Prelude.{flat_map, filter, if◌then◌else◌, ◌↔◌}
 use Rattle.std.specs.List.{list_all, AllByRecursion, Contains}
-use Rattle.std.proofs.lemmas.Bool.{leb-true}
+use Rattle.counting.proofs.Booleans.{both, leb-true}
 use Rattle.std.proofs.lemmas.List.Elements.{Contains-append_left, Contains-append_right}
-use Rattle.counting.proofs.Counts.{both}
 use Rattle.counting.specs.Search.{upward}
 use Rattle.counting.proofs.Upward.{Contains-upward}
 use Rattle.design_base.specs.declared.query.Query.{Query}

@@ -2,7 +2,7 @@
 use Rattle.std.proofs.Common.{◌≡◌, ℕ, zero, suc, ◌<◌, ◌≤◌, Bool, true, false, ◌&&◌, List, [], ◌∷◌, ◌++◌, arith, refl, map, length, sym, subst}
 use Rattle.std.specs.List.{AllByRecursion, list_all}
 use Rattle.std.proofs.lemmas.Bool.Decides.{nat_tests}
-use Rattle.counting.proofs.Counts.{both}
+use Rattle.counting.proofs.Booleans.{and_from, both}
 use Rattle.counting.specs.Search.{upward}
 use Rattle.design_base.specs.declared.limits.TheConstants.{PREMISES_MAX}
 use Rattle.design_base.specs.declared.query.Query.{Query}
@@ -32,15 +32,11 @@ choices_allowed (suc n) r (from low to high take f) g =
     (each-upward (λ x. AllByRecursion (IsAllowed (suc n) (from low to high take f)) (map (λ xs. x ∷ xs) (choices (f x)))) low high
     (λ x l u. each-map (IsAllowed (suc n) (from low to high take f)) (λ xs. x ∷ xs) (choices (f x))
     (each-weaker (IsAllowed n (f x)) (λ xs. IsAllowed (suc n) (from low to high take f) (x ∷ xs)) (choices (f x))
-    (λ xs a. (omega (arith, a.0), λ zs. joined (within low high x) (allows (f x) (xs ++ zs)) (in_range low high x l u) (a.1 zs)))
+    (λ xs a. (omega (arith, a.0), λ zs. and_from (within low high x) (allows (f x) (xs ++ zs)) (in_range low high x l u) (a.1 zs)))
     (choices_allowed n r (f x) (g x)))))
   where
     in_range : (low high x : ℕ) → low ≤ x → x ≤ high → within low high x ≡ true
     in_range low high x l u = grind (arith, nat_tests)
-
-    joined : (a b : Bool) → a ≡ true → b ≡ true → (a && b) ≡ true
-    joined true b e f = f
-    joined false b e f = e
 
 -- the parameters of a step made of at most four, and what stands behind them
 pub four_of : (r : Rule) (xs : List ℕ) → length xs ≤ 4 → (zs : List ℕ) × (four (step_with r xs) ≡ xs ++ zs)
@@ -61,16 +57,12 @@ candidates_are q b =
     Passes : Step → Type 0
     Passes s = (serves (kind_of q) s.rule && allows (terms q s.rule) (four s)) ≡ true
 
-    joined : (a b : Bool) → a ≡ true → b ≡ true → (a && b) ≡ true
-    joined true b e f = f
-    joined false b e f = e
-
     of_rule : (r : Rule) → serves (kind_of q) r ≡ true → AllByRecursion Passes (map (step_with r) (choices (terms q r)))
     of_rule r k =
         each-map Passes (step_with r) (choices (terms q r))
         (each-weaker (IsAllowed (title r).parameters (terms q r)) (λ xs. Passes (step_with r xs)) (choices (terms q r))
         (λ xs a. let f = four_of r xs (omega (arith, a.0, few_parameters r)) in
-        joined (serves (kind_of q) r) (allows (terms q r) (four (step_with r xs))) k (subst (λ ys. allows (terms q r) ys ≡ true) (sym f.1) (a.1 f.0)))
+        and_from (serves (kind_of q) r) (allows (terms q r) (four (step_with r xs))) k (subst (λ ys. allows (terms q r) ys ≡ true) (sym f.1) (a.1 f.0)))
         (choices_allowed (title r).parameters (rank q) (terms q r) (grounded q b r)))
 
 -- in bounds, and of a rank below r

@@ -1,5 +1,6 @@
 -- A question to which no criterion applies is Yes where the premises of one of its candidates are.
 use Rattle.std.proofs.Common.{◌≡◌, zero, suc, Bool, true, false, ◌&&◌, List, [], ◌∷◌, arith, refl, ap, sym, subst, ◌∙◌}
+use Rattle.counting.proofs.Booleans.{and_from}
 use Rattle.std.specs.Prelude.{Option, Some, None, Contains}
 use Rattle.std.specs.List.{AllByRecursion}
 use Rattle.counting.specs.Search.{first_in, each_passes}
@@ -65,9 +66,5 @@ unfolding is_candidate allows premises premises_at
 proved_alone q r condition b c k t e =
     proved_by q (step r 0 0 0 0) b c
     (record { a_small = omega arith; b_small = omega arith; c_small = omega arith; d_small = omega arith; a_used = λ _. refl; b_used = λ _. refl; c_used = λ _. refl; d_used = λ _. refl })
-    (joined _ _ k (ap (λ t. allows t (0 ∷ 0 ∷ 0 ∷ 0 ∷ [])) t ∙ joined _ _ e refl))
+    (and_from _ _ k (ap (λ t. allows t (0 ∷ 0 ∷ 0 ∷ 0 ∷ [])) t ∙ and_from _ _ e refl))
     (subst (AllByRecursion IsYes) (sym (ap (λ t. premises_at t (0 ∷ 0 ∷ 0 ∷ 0 ∷ [])) t)) tt)
-  where
-    joined : (a b : Bool) → a ≡ true → b ≡ true → (a && b) ≡ true
-    joined true b e f = f
-    joined false b e f = cc

@@ -1,7 +1,7 @@
 -- The cells whose word is not 0, before and after a write; and what was learned when a verdict is noted.
 use Rattle.std.proofs.Common.{◌≡◌, ◌≢◌, ◌⊎◌, ℕ, zero, suc, ◌+◌, ◌<◌, ◌≤◌, List, [], ◌∷◌, length, true, cond, inl, inr, refl, sym, ap, ◌∙◌, subst, ⊎_elim, set, replicate, arith, eq-eqb, ne_eqb}
 use Rattle.std.specs.Prelude.{slice_index, Some}
-use Rattle.std.proofs.lemmas.Bool.{cases_eq}
+use Rattle.counting.proofs.Booleans.{cases_eq}
 use Rattle.std.proofs.lemmas.List.{length-replicate, length-set, get_or-set_same, get_or-set_other}
 use Rattle.std.specs.FinSet as sets
 use Rattle.std.specs.Ordering.{nat_cmp}

@@ -1,5 +1,6 @@
 -- Sets of cells, by what they have and how many.
 use Rattle.std.proofs.Common.{◌≡◌, ◌⊎◌, ℕ, ◌+◌, ◌≤◌, Bool, true, false, ◌||◌, cond, List, [], ◌∷◌, ◌++◌, map, inl, inr, refl, sym, ap, ◌∙◌, subst, ⊎_elim, true≢false, eq-eqb, arith}
+use Rattle.counting.proofs.Booleans.{bool_same}
 use Rattle.std.specs.Prelude.{nat_eq}
 use Rattle.std.specs.List.{list_any}
 use Rattle.std.specs.Ordering.{nat_cmp}
@@ -63,14 +64,9 @@ union_right s t i h = set.contains-union nat_cmp_total s t i ∙ right_of (set.c
 pub union_from : (s t : Cells) (i : ℕ) → Has (set.union s t) i → Has s i ⊎ Has t i
 union_from s t i h = either_of (set.contains s i) (set.contains t i) (sym (set.contains-union nat_cmp_total s t i) ∙ h)
 
-both_ways : (a b : Bool) → (a ≡ true → b ≡ true) → (b ≡ true → a ≡ true) → a ≡ b
-both_ways true b f g = sym (f refl)
-both_ways false true f g = g refl
-both_ways false false f g = refl
-
 -- sets with the same cells are the same
 pub same_cells : (s t : Cells) → ((i : ℕ) → Has s i → Has t i) → ((i : ℕ) → Has t i → Has s i) → s ≡ t
-same_cells s t f g = set.same_set nat_cmp_total nat_cmp-IsAntisymmetric s t (λ i. both_ways (set.contains s i) (set.contains t i) (f i) (g i))
+same_cells s t f g = set.same_set nat_cmp_total nat_cmp-IsAntisymmetric s t (λ i. bool_same (set.contains s i) (set.contains t i) (f i) (g i))
 
 -- a cell that is there already
 pub insert_same : (s : Cells) (k : ℕ) → Has s k → set.insert s k ≡ s

@@ -1,6 +1,6 @@
 -- The rule of a candidate serves its question's kind.
 use Rattle.std.proofs.Common.{◌≡◌, true, refl}
-use Rattle.counting.proofs.Counts.{both}
+use Rattle.counting.proofs.Booleans.{both}
 use Rattle.design_base.specs.declared.query.Query.{Query}
 use Rattle.design_base.specs.declared.rule.Kind.{Kind}
 use Rattle.design_base.specs.declared.rule.Kind.TheVariants.{Td, Df, Bibd, Gdd, Pbd}

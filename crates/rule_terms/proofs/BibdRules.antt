@@ -1,8 +1,7 @@
 -- The rules of block designs are grounded: a case a rule.
 use Rattle.std.proofs.Common.{◌≡◌, ℕ, ◌+◌, ◌-◌, ◌*◌, ◌/◌, ◌<◌, ◌≤◌, true, arith, refl, inl, inr}
-use Rattle.std.proofs.lemmas.Bool.{eqb-true, leb-true, ltb-true, cases_lt}
+use Rattle.counting.proofs.Booleans.{both, cases_lt, eqb-true, leb-true, ltb-true}
 use Rattle.std.proofs.Math.Nat.{mul-le-mul, mul-le-mul_left, div-mul-le_self, le-div_iff_mul-le}
-use Rattle.counting.proofs.Counts.{both}
 use Rattle.design_base.specs.declared.limits.TheConstants.{PREMISES_MAX}
 use Rattle.design_base.specs.declared.query.Group.{Group}
 use Rattle.design_base.specs.declared.query.Group.TheVariants.{Cyclic, Field}

@@ -1,8 +1,7 @@
 -- The designs on curves meet their questions, so that their lists need no check.
 use Rattle.std.proofs.Common.{Bool, List, ap, arith, false, refl, subst, sym, true, ℕ, ◌&&◌, ◌+◌, ◌-◌, ◌<◌, ◌==◌, ◌^◌, ◌∙◌, ◌≡◌, ◌≤◌}
-use Rattle.std.proofs.lemmas.Bool.{eqb-true, leb-true, ltb-true}
+use Rattle.counting.proofs.Booleans.{both, eqb-true, leb-true, ltb-true}
 use Rattle.std.specs.Prelude.{nat_lt}
-use Rattle.counting.proofs.Counts.{both}
 use Rattle.counting.specs.Search.{each_passes, first_in, ◌<=◌}
 use Rattle.counting.specs.Sums.{join_below, list_below}
 use Rattle.design_base.specs.Blocks.{IsBibd}
@@ -13,7 +12,7 @@ use Rattle.design_base.specs.declared.query.Query.TheVariants.{Bibd}
 use Rattle.design_checks.proofs.Meeting.{passes_meets}
 use Rattle.design_checks.specs.Findings.{passes_check}
 use Rattle.field_tables.proofs.Search.{passes_below}
-use Rattle.plane_curves.proofs.CurveDesigns.{arcs, order_few, unitals}
+use Rattle.plane_curves.proofs.CurveDesigns.{arcs, unitals}
 use Rattle.plane_curves.proofs.ListedArcs.{even_field}
 use Rattle.plane_curves.specs.Conditions.{arc_size}
 use Rattle.plane_curves.specs.Curves.{arc_blocks, unital_blocks}
@@ -22,13 +21,6 @@ use Rattle.plane_curves.specs.Curves.{arc_blocks, unital_blocks}
 also : (a b : Bool) → (a ≡ true → b ≡ true) → a ≡ (a && b)
 also true b h = sym (h refl)
 also false b h = refl
-
-squares_listed : each_passes (λ q. has_field (q ^ 2)) (list_below 4 (λ i. 2 + i)) ≡ true
-unfolding each_passes first_in join_below modulus_of moduli
-squares_listed = refl
-
-square_listed : (q : ℕ) → 2 ≤ q → q ≤ 5 → has_field (q ^ 2) ≡ true
-square_listed q l m = subst (λ x. has_field (x ^ 2) ≡ true) (let e : 2 + (q - 2) ≡ q = omega arith in e) (passes_below (λ q. has_field (q ^ 2)) 4 (λ i. 2 + i) squares_listed (q - 2) (omega arith))
 
 bibd_passes : (v w k m l : ℕ) (B : List (List ℕ)) → v ≡ w → k ≡ m → l ≡ 1 → IsBibd (canonical B) w m 1 → passes_check (Bibd v k l) B ≡ true
 bibd_passes v w k m l B points block once design =
@@ -43,26 +35,23 @@ record IsUnitalSize (v k l q : ℕ) : Type 0 where
   pub once : l ≡ 1
   pub points : v ≡ q ^ 3 + 1
   pub order : 2 ≤ q
+  pub listed : has_field (q ^ 2) ≡ true
 
-unital_size : (v k l q : ℕ) → (k == q + 1 && l == 1 && v == q ^ 3 + 1 && 2 <= q) ≡ true → IsUnitalSize v k l q
+unital_size : (v k l q : ℕ) → (k == q + 1 && l == 1 && v == q ^ 3 + 1 && 2 <= q && has_field (q ^ 2)) ≡ true → IsUnitalSize v k l q
 unital_size v k l q e =
-    let c = both _ _ e in
+    let d = both _ _ e in
+    let c = both _ _ d.0 in
     let b = both _ _ c.0 in
     let a = both _ _ b.0 in
-    record { block = eqb-true _ _ a.0; once = eqb-true _ _ a.1; points = eqb-true _ _ b.1; order = leb-true _ _ c.1 }
-
-unital_listed : (v k l q : ℕ) → v ≤ POINTS_MAX → IsUnitalSize v k l q → has_field (q ^ 2) ≡ true
-unital_listed v k l q few h = square_listed q h.order (order_few q (omega (arith, few, h.points)))
+    record { block = eqb-true _ _ a.0; once = eqb-true _ _ a.1; points = eqb-true _ _ b.1; order = leb-true _ _ c.1; listed = d.1 }
 
 unital_passes : (v k l q : ℕ) → v ≤ POINTS_MAX → IsUnitalSize v k l q → passes_check (Bibd v k l) (unital_blocks q) ≡ true
 unital_passes v k l q few h =
-    bibd_passes v (q ^ 3 + 1) k (q + 1) l (unital_blocks q) h.points h.block h.once (unitals q (record { order = h.order; points = omega (arith, few, h.points) }))
+    bibd_passes v (q ^ 3 + 1) k (q + 1) l (unital_blocks q) h.points h.block h.once (unitals q (record { order = h.order; listed = h.listed; points = omega (arith, few, h.points) }))
 
 pub unital_meets : (v k l q : ℕ) → v ≤ POINTS_MAX →
-    (k == q + 1 && l == 1 && v == q ^ 3 + 1 && 2 <= q) ≡ (k == q + 1 && l == 1 && v == q ^ 3 + 1 && 2 <= q && has_field (q ^ 2) && passes_check (Bibd v k l) (unital_blocks q))
-unital_meets v k l q few =
-    also (k == q + 1 && l == 1 && v == q ^ 3 + 1 && 2 <= q) (has_field (q ^ 2)) (λ e. unital_listed v k l q few (unital_size v k l q e))
-    ∙ also (k == q + 1 && l == 1 && v == q ^ 3 + 1 && 2 <= q && has_field (q ^ 2)) (passes_check (Bibd v k l) (unital_blocks q)) (λ e. unital_passes v k l q few (unital_size v k l q (both _ _ e).0))
+    (k == q + 1 && l == 1 && v == q ^ 3 + 1 && 2 <= q && has_field (q ^ 2)) ≡ (k == q + 1 && l == 1 && v == q ^ 3 + 1 && 2 <= q && has_field (q ^ 2) && passes_check (Bibd v k l) (unital_blocks q))
+unital_meets v k l q few = also (k == q + 1 && l == 1 && v == q ^ 3 + 1 && 2 <= q && has_field (q ^ 2)) (passes_check (Bibd v k l) (unital_blocks q)) (λ e. unital_passes v k l q few (unital_size v k l q e))
 
 -- what is asked of the numbers of an arc
 record IsArcSize (v k l r s : ℕ) : Type 0 where

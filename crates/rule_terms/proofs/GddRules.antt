@@ -1,10 +1,9 @@
 -- The rules of group divisible designs are grounded: a case a rule.
 use Rattle.std.proofs.Common.{◌≡◌, ℕ, ◌+◌, ◌-◌, ◌*◌, ◌/◌, ◌^◌, ◌<◌, ◌≤◌, true, ◌||◌, arith, ap, refl, inl, inr}
 use Rattle.std.specs.Prelude.{nat_lt}
-use Rattle.counting.proofs.Counts.{both}
 use Rattle.counting.specs.Division.{divides}
 use Rattle.counting.specs.Search.{◌<=◌}
-use Rattle.std.proofs.lemmas.Bool.{eqb-true, leb-true, cases_lt}
+use Rattle.counting.proofs.Booleans.{both, cases_lt, eqb-true, leb-true}
 use Rattle.std.proofs.lemmas.Bool.Decides.{nat_tests}
 use Rattle.std.proofs.Math.Nat.{mul-le-mul, mul-le-mul_left, div-add-mod'}
 use Rattle.design_base.specs.declared.limits.TheConstants.{POINTS_MAX, PREMISES_MAX}

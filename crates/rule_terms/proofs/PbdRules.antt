@@ -1,8 +1,7 @@
 -- The rules of pairwise balanced designs are grounded: a case a rule.
 use Rattle.std.proofs.Common.{◌≡◌, ℕ, ◌+◌, ◌*◌, ◌<◌, ◌≤◌, Bool, true, false, [], ◌∷◌, arith, refl}
 use Rattle.std.specs.Prelude.{if◌then◌else◌}
-use Rattle.std.proofs.lemmas.Bool.{eqb-true, leb-true}
-use Rattle.counting.proofs.Counts.{both}
+use Rattle.counting.proofs.Booleans.{both, eqb-true, leb-true}
 use Rattle.counting.specs.Search.{◌<=◌}
 use Rattle.design_base.specs.declared.limits.TheConstants.{POINTS_MAX, PREMISES_MAX}
 use Rattle.design_base.specs.declared.query.Query.TheVariants.{Bibd, Pbd, Td}

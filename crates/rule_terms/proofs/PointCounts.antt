@@ -1,6 +1,6 @@
 -- The points of a projective geometry, counted dimension by dimension.
-use Rattle.std.proofs.Common.{arith, suc, zero, ℕ, ◌*◌, ◌+◌, ◌-◌, ◌<◌, ◌==◌, ◌^◌, ◌≡◌, ◌≤◌, false, ap, add-one}
-use Rattle.std.proofs.Math.Nat.{mul-le-mul, pow-zero}
+use Rattle.std.proofs.Common.{arith, suc, zero, ℕ, ◌*◌, ◌+◌, ◌-◌, ◌/◌, ◌<◌, ◌==◌, ◌^◌, ◌≡◌, ◌≤◌, false, ap, add-one}
+use Rattle.std.proofs.Math.Nat.{div-lt_iff_lt-mul, mul-le-mul, pow-zero}
 use Rattle.std.proofs.lemmas.Bool.Decides.{nat_tests}
 use Rattle.counting.proofs.Counts.{sum_below-none, sum_below-suc}
 use Rattle.counting.specs.Sums.{sum_below}
@@ -28,3 +28,13 @@ pub product_fits : (a b : ℕ) → a < 2 ^ 16 → b < 2 ^ 16 → a * b + 1 < 2 ^
 product_fits a b h k = let p : a * b ≤ (2 ^ 16 - 1) * (2 ^ 16 - 1) = mul-le-mul {n₁ = a} {m₁ = b} {n₂ = 2 ^ 16 - 1} {m₂ = 2 ^ 16 - 1} (omega arith) (omega arith) in omega (arith, p)
 
 pub ruleset point_count_laws = (count_none, count_more, too_many, product_fits)
+
+-- where blocks hold more than half of the points, there are fewer than twice as many as at a point
+pub blocks_few : (v k r : ℕ) → v < 2 * k → v * r / k ≤ 2 * r
+blocks_few v k r h =
+    let most : v * r ≤ 2 * k * r = mul-le-mul {n₁ = v} {m₁ = r} {n₂ = 2 * k} {m₂ = r} (omega arith) (omega arith) in
+    let below : v * r < suc (2 * r) * k = omega (arith, most, turn k r) in
+    omega (arith, (div-lt_iff_lt-mul {k = k} {x = v * r} {y = suc (2 * r)} (omega arith)).1 below)
+  where
+    turn : (k r : ℕ) → suc (2 * r) * k ≡ 2 * k * r + k
+    turn k r = omega arith

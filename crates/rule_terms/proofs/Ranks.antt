@@ -1,6 +1,6 @@
 -- Where group divisible designs rank: those whose groups hold a block, and those whose groups are smaller.
 use Rattle.std.proofs.Common.{◌≡◌, ℕ, ◌+◌, ◌*◌, ◌<◌, ◌≤◌, arith, inl, inr}
-use Rattle.std.proofs.lemmas.Bool.{cases_lt}
+use Rattle.counting.proofs.Booleans.{cases_lt}
 use Rattle.std.proofs.lemmas.Bool.Decides.{nat_tests}
 use Rattle.design_base.specs.declared.query.Query.TheVariants.{Gdd}
 use Rattle.rule_terms.specs.Rank.{rank, ranked}

@@ -1,8 +1,7 @@
 -- The rules of transversal designs are grounded: a case a rule.
 use Rattle.std.proofs.Common.{◌≡◌, ℕ, ◌+◌, ◌*◌, ◌<◌, ◌≤◌, arith, refl}
-use Rattle.std.proofs.lemmas.Bool.{eqb-true, leb-true}
+use Rattle.counting.proofs.Booleans.{both, eqb-true, leb-true}
 use Rattle.std.proofs.Math.Nat.{mul-le-mul_left, mul-le-mul}
-use Rattle.counting.proofs.Counts.{both}
 use Rattle.design_base.specs.declared.limits.TheConstants.{PREMISES_MAX}
 use Rattle.design_base.specs.declared.rule.Rule.{Rule}
 use Rattle.design_base.specs.declared.rule.Rule.TheVariants.{TdOne, Cyclic, Field, Product, Parker, Wilson1, Wilson2}

@@ -120,6 +120,9 @@ fn complement(alloc: Global, v: u16, k: u16, l: u16) -> Next
     ensures next { IsNext (bibd_terms v k l Complement) result }
     ensures few { IsFew result }
 {
+    if 2 * k <= v {
+        return Next::Nothing;
+    }
     let r = replication_number(v, k, l);
     let j = complement_cover(v, k, l);
     when(

@@ -7,6 +7,7 @@ ghost use Rattle.design_base.specs.Fields.{has_field};
 ghost use Rattle.design_checks.specs.Findings.{passes_check};
 ghost use Rattle.plane_curves.specs.Curves.{arc_blocks, unital_blocks};
 
+use design_base::is_field_order;
 use plane_curves::power_of_two;
 
 // Whether v is q ^ 3 + 1.
@@ -19,12 +20,23 @@ fn is_cube_and_one(v: u16, q: u16) -> bool
     }
 }
 
+// Whether a field of q * q elements is listed.
+#[tactic(auto, using(field_tables::proofs::Listed::listed_past))]
+fn is_square_order(q: u16) -> bool
+    ensures { result ≡ has_field (q ^ 2) }
+{
+    match q.checked_pow(2) {
+        Some(square) => is_field_order(square),
+        None => false,
+    }
+}
+
 // Whether a unital of lines of q + 1 points has these numbers.
 fn has_unital_size(v: u16, k: u16, l: u16, q: u16) -> bool
     requires { q ≤ PARAMETER_MAX }
-    ensures { result ≡ (k == q + 1 && l == 1 && v == q ^ 3 + 1 && 2 <= q) }
+    ensures { result ≡ (k == q + 1 && l == 1 && v == q ^ 3 + 1 && 2 <= q && has_field (q ^ 2)) }
 {
-    k == q + 1 && l == 1 && is_cube_and_one(v, q) && 2 <= q
+    k == q + 1 && l == 1 && is_cube_and_one(v, q) && 2 <= q && is_square_order(q)
 }
 
 // Whether the unital over the field of q * q elements has blocks of k of v points, each two in one.

@@ -1,5 +1,5 @@
 // The sizes of block designs that rules compare.
-ghost use Rattle.std.specs.Prelude.{◌≡◌, ◌≤◌, ◌*◌, ◌^◌, ◌==◌};
+ghost use Rattle.std.specs.Prelude.{◌≡◌, ◌<◌, ◌≤◌, ◌*◌, ◌^◌, ◌==◌};
 ghost use Rattle.block_counts.specs.Counts.{complement_cover as cover_of_complements, replication_number as replication_of};
 ghost use Rattle.design_base.specs.declared.limits.TheConstants.{COVER_MAX, POINTS_MAX};
 ghost use Rattle.design_base.specs.Geometries.{point_count};
@@ -18,11 +18,14 @@ pub(crate) fn replication_number(v: u16, k: u16, l: u16) -> u16
     l * (v - 1) / (k - 1)
 }
 
-// In how many complements of blocks two points stand together, and 0 where that would be below 0.
+// In how many complements of blocks two points stand together, and 0 where that would be below 0. Blocks hold more than half of the
+// points, so that there are no more complements through two points than blocks.
+#[tactic(auto, using(crate::proofs::PointCounts::blocks_few))]
 pub(crate) fn complement_cover(v: u16, k: u16, l: u16) -> u16
     requires least { 2 ≤ k }
     requires some { 1 ≤ v }
     requires points { v ≤ POINTS_MAX }
+    requires wide { v < 2 * k }
     requires cover { l ≤ COVER_MAX }
     ensures { result ≡ cover_of_complements v k l }
 {

@@ -1,6 +1,6 @@
 -- The lines of an affine geometry: two points have one line.
 use Rattle.std.proofs.Common.{List, ap, arith, inl, inr, map, subst, sym, true, ℕ, ◌+◌, ◌-◌, ◌<◌, ◌∙◌, ◌≡◌, ◌≢◌}
-use Rattle.std.proofs.lemmas.Bool.{cases_order}
+use Rattle.counting.proofs.Booleans.{cases_order}
 use Rattle.std.proofs.lemmas.List.Elements.{All-from_recursion, recursion_from_All}
 use Rattle.counting.proofs.Lists.{each_map}
 use Rattle.counting.proofs.Ranges.{All-join_below, each_below}

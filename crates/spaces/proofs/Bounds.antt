@@ -1,5 +1,5 @@
 -- Bounds on the dimension, the order and the vectors of a geometry, from the number of its points.
-use Rattle.std.proofs.Common.{ap, arith, subst, suc, true, zero, ℕ, ◌*◌, ◌+◌, ◌<◌, ◌^◌, ◌≡◌, ◌≤◌}
+use Rattle.std.proofs.Common.{ap, arith, subst, suc, true, zero, ℕ, ◌*◌, ◌+◌, ◌-◌, ◌<◌, ◌^◌, ◌≡◌, ◌≤◌}
 use Rattle.std.proofs.Math.Nat.{mul-le-mul_left, mul-le-mul_right, one-le-pow, pow-le-pow_right, pow-suc, pow-zero}
 use Rattle.counting.proofs.Counts.{sum_below-none, sum_below-suc}
 use Rattle.counting.specs.Sums.{sum_below}
@@ -29,8 +29,8 @@ order_small q (suc d) h = subst (λ m. q + 1 ≤ sum_below m (λ i. q ^ i)) (let
 pub vectors_fit : (q d : ℕ) → 1 ≤ d → point_count q d ≤ POINTS_MAX → q ^ (d + 1) < 2 ^ 16
 vectors_fit q d h few =
     let s = point_count q d in
-    let most : s * q ≤ s * POINTS_MAX = mul-le-mul_left s (let e : q ≤ POINTS_MAX = omega (arith, order_small q d h) in e) in
-    let small : s * POINTS_MAX ≤ POINTS_MAX * POINTS_MAX = mul-le-mul_right POINTS_MAX few in
+    let most : s * q ≤ s * (POINTS_MAX - 1) = mul-le-mul_left s (let e : q ≤ POINTS_MAX - 1 = omega (arith, order_small q d h) in e) in
+    let small : s * (POINTS_MAX - 1) ≤ POINTS_MAX * (POINTS_MAX - 1) = mul-le-mul_right (POINTS_MAX - 1) few in
     omega (arith, count_vectors q d, most, small)
 
 pub some_vectors : (q n : ℕ) → 1 < q → 0 < q ^ n

@@ -1,6 +1,6 @@
 -- The first nonzero entry, entry by entry.
 use Rattle.std.proofs.Common.{ap, arith, refl, suc, zero, ℕ, ◌%◌, ◌-◌, ◌/◌, ◌∙◌, ◌≡◌, ◌≢◌, cond}
-use Rattle.std.proofs.lemmas.Bool.{eq-eqb, ne_eqb}
+use Rattle.counting.proofs.Booleans.{eq-eqb, ne_eqb}
 use Rattle.spaces.specs.Points.{lead}
 
 pub lead-none : (q n x : ℕ) → n ≡ 0 → lead q n x ≡ 0

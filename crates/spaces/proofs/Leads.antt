@@ -1,7 +1,7 @@
 -- The first nonzero entry of a vector, and the points, for which it is 1.
 use Rattle.std.proofs.Common.{Bool, List, [], ap, ap₂, arith, cond, get_or, inl, inr, length, map, refl, replicate, subst, suc, sym, true, zero, ℕ, ◌*◌, ◌+◌, ◌<◌, ◌==◌, ◌^◌, ◌∙◌, ◌∷◌, ◌≡◌, ◌≢◌, ◌⊎◌}
 use Rattle.std.proofs.Math.Nat.{pos_of_ne-zero, pow-suc, pow-zero}
-use Rattle.std.proofs.lemmas.Bool.{cases_eq, cases_order, cond_both, eq-eqb, eqb-true, false≢true, ne_eqb, or_cases}
+use Rattle.counting.proofs.Booleans.{cases_eq, cases_order, cond_both, eq-eqb, eqb-true, false≢true, ne_eqb, or_cases}
 use Rattle.std.proofs.lemmas.List.Elements.{All-from_recursion, filter-append}
 use Rattle.std.proofs.lemmas.List.{length-append}
 use Rattle.std.proofs.lemmas.Nat.{div-mul-add, mod-mul-add}

@@ -1,6 +1,6 @@
 -- Geometries in which two points have one line. Each line, listed for its two least points, is there once.
 use Rattle.std.proofs.Common.{Bool, List, [], ap, arith, cond, false, inl, inr, refl, subst, suc, sym, true, zero, ℕ, ◌&&◌, ◌<◌, ◌==◌, ◌||◌, ◌∙◌, ◌∷◌, ◌≡◌, ◌≢◌, ◌≤◌, ◌⊎◌}
-use Rattle.std.proofs.lemmas.Bool.{and_from, and_parts, cases_Bool, cases_eq, cases_lt, cond_both, eq-eqb, eqb-true, false≢true, le-leb, leb-true, ne_eqb, not_from_false, or_cases, or_left, or_right}
+use Rattle.counting.proofs.Booleans.{and_from, both, cases_Bool, cases_eq, cases_lt, cond_both, eq-eqb, eqb-true, false≢true, le-leb, leb-true, ne_eqb, not_from_false, or_cases, or_left, or_right}
 use Rattle.std.proofs.lemmas.List.Elements.{All-cons, All-nil}
 use Rattle.std.specs.List.{list_all}
 use Rattle.std.specs.Prelude.{All, nat_le, not}
@@ -38,7 +38,7 @@ least_from p n e = elim (least_below p (suc n)) [
 -- what a test of each point says of one
 all_at : (p : ℕ → Bool) (x : ℕ) (b : List ℕ) → list_all p b ≡ true → holds x b ≡ true → p x ≡ true
 all_at p x [] h e = absurd (false≢true (sym (holds-none x) ∙ e))
-all_at p x (z ∷ b) h e = let h = and_parts _ _ h in elim (or_cases (z == x) (holds x b) (sym (holds-cons x z b) ∙ e)) [
+all_at p x (z ∷ b) h e = let h = both _ _ h in elim (or_cases (z == x) (holds x b) (sym (holds-cons x z b) ∙ e)) [
   | inl f ↦ subst (λ y. p y ≡ true) (eqb-true z x f) h.0
   | inr f ↦ all_at p x b h.1 f
 ]
@@ -58,7 +58,7 @@ two_least : (set : ℕ → Bool) (u w : ℕ) → u < w → set u ≡ true → se
 two_least set u w l e f =
     let a = least_from set u e in
     let b = least_from (λ z. set z && not (z == a.0)) w (and_from _ _ f (not_from_false _ (ne_eqb w a.0 (λ g. absurd (omega (arith, a.1)))))) in
-    let at : (set b.0 ≡ true) × (not (b.0 == a.0) ≡ true) = and_parts _ _ b.2 in
+    let at : (set b.0 ≡ true) × (not (b.0 == a.0) ≡ true) = both _ _ b.2 in
     let apart : b.0 ≢ a.0 = λ g. false≢true (sym (ap not (eq-eqb b.0 a.0 g)) ∙ at.1) in (
       a.0,
       b.0,
@@ -137,32 +137,32 @@ module _ (v k : ℕ) (line : ℕ → ℕ → List ℕ) (s : IsLinearSpace v k li
       )
 
   -- ---- covers
-  both : ℕ → ℕ → List ℕ → Bool
-  both u w b = holds u b && holds w b
+  holds_both : ℕ → ℕ → List ℕ → Bool
+  holds_both u w b = holds u b && holds w b
 
-  cover-line_at : (u w x y : ℕ) → cover (line_at x y (line x y)) u w ≡ one (are_least x y (line x y) && both u w (line x y))
-  unfolding both
+  cover-line_at : (u w x y : ℕ) → cover (line_at x y (line x y)) u w ≡ one (are_least x y (line x y) && holds_both u w (line x y))
+  unfolding holds_both
   cover-line_at u w x y = go (are_least x y (line x y))
     where
       go : (t : Bool) → cover (cond t (line x y ∷ []) []) u w ≡ one (t && (holds u (line x y) && holds w (line x y)))
       go true = cover-single (line x y) u w
       go false = cover-none u w ∙ sym (one-false false (λ e. false≢true e))
 
-  cover-least_lines : (u w : ℕ) → cover (least_lines line v) u w ≡ count_pairs v (λ x y. are_least x y (line x y) && both u w (line x y))
+  cover-least_lines : (u w : ℕ) → cover (least_lines line v) u w ≡ count_pairs v (λ x y. are_least x y (line x y) && holds_both u w (line x y))
   unfolding least_lines lines_to
   cover-least_lines u w = cover-join_below v _ u w
       ∙ sum_below-same v _ _ (λ y l. cover-join_below y (λ x. line_at x y (line x y)) u w ∙ sum_below-same y _ _ (λ x m. cover-line_at u w x y))
 
   pub covered_once : (u w : ℕ) → u < w → w < v → cover (least_lines line v) u w ≡ 1
-  unfolding both
+  unfolding holds_both
   covered_once u w l m =
       let t = listed u w l m in
       let h : IsListed u w t.0 t.1 = t.2 in
-      cover-least_lines u w ∙ pairs_one v t.0 t.1 (λ x y. are_least x y (line x y) && both u w (line x y)) h.pair.rises h.small
+      cover-least_lines u w ∙ pairs_one v t.0 t.1 (λ x y. are_least x y (line x y) && holds_both u w (line x y)) h.pair.rises h.small
       (and_from _ _ h.listed (and_from _ _ (sym (h.same u) ∙ s.first u w l m) (sym (h.same w) ∙ s.second u w l m)))
       (λ x y a b e.
-      let e = and_parts _ _ e in
-      let g = and_parts _ _ e.1 in
+      let e = both _ _ e in
+      let g = both _ _ e.1 in
       let same : (z : ℕ) → holds z (line x y) ≡ holds z (line u w) = λ z. s.joins x y u w z a b l m g.0 g.1 in
       same_least t.0 t.1 x y (λ z. holds z (line u w)) h.pair (record {
         rises = a;

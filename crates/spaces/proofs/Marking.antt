@@ -1,10 +1,9 @@
 -- A table of pairs, marked for a line.
 use Rattle.std.proofs.Common.{Bool, List, [], ap, ap₂, arith, false, get_or, inl, inr, length, refl, replicate, slice_set, subst, sym, take, true, ℕ, ◌&&◌, ◌*◌, ◌++◌, ◌+◌, ◌<◌, ◌==◌, ◌||◌, ◌∙◌, ◌∷◌, ◌≡◌, ◌≢◌}
-use Rattle.std.proofs.lemmas.Bool.{cases_eq, eq-eqb, lt-ltb, ne_eqb}
+use Rattle.counting.proofs.Booleans.{cases_eq, eq-eqb, eqb-turn, lt-ltb, ne_eqb, or_false, or_true}
 use Rattle.std.proofs.lemmas.List.{get_or-replicate, get_or-set_other, get_or-set_same, length-replicate, take_more}
 use Rattle.std.proofs.Math.Seq.{take-append_seam}
 use Rattle.std.specs.Prelude.{nat_lt}
-use Rattle.counting.proofs.Counts.{eqb-turn}
 use Rattle.counting.specs.Sums.{one}
 use Rattle.design_base.proofs.Cover.{cover-append, cover-none, cover-single, holds-append, holds-cons, holds-none}
 use Rattle.design_base.specs.Blocks.{cover, holds}
@@ -36,19 +35,15 @@ entry_set met x y z w size lx ly lz lw = elim (cases_eq z x) [
         ∙ sym (ap₂ (λ s t. entry met z w || (s && t)) (eq-eqb z x e) (eq-eqb y w f) ∙ or_true (entry met z w))
     | inr f ↦ other (omega arith) ∙ or_none (entry met z w) (z == x) ∙ ap (λ t. entry met z w || ((z == x) && t)) (sym (ne_eqb y w f))
   ]
-  | inr e ↦ other (omega arith) ∙ or_false (entry met z w) (y == w) ∙ ap (λ t. entry met z w || (t && (y == w))) (sym (ne_eqb z x e))
+  | inr e ↦ other (omega arith) ∙ met_alone (entry met z w) (y == w) ∙ ap (λ t. entry met z w || (t && (y == w))) (sym (ne_eqb z x e))
 ]
   where
     other : z * POINTS_MAX + w ≢ x * POINTS_MAX + y → entry (slice_set met (x * POINTS_MAX + y) true) z w ≡ entry met z w
     other d = get_or-set_other met (x * POINTS_MAX + y) (z * POINTS_MAX + w) true false d
 
-    or_true : (a : Bool) → (a || true) ≡ true
-    or_true true = refl
-    or_true false = refl
-
-    or_false : (a b : Bool) → a ≡ (a || (false && b))
-    or_false true b = refl
-    or_false false b = refl
+    met_alone : (a b : Bool) → a ≡ (a || (false && b))
+    met_alone true b = refl
+    met_alone false b = refl
 
 -- the points of a longer front
 holds_front : (w : ℕ) (line : List ℕ) (i : ℕ) → i < length line → holds w (take (i + 1) line) ≡ (holds w (take i line) || (get_or line i 0 == w))
@@ -89,15 +84,7 @@ no_line_met = record {
 one_more : (n : ℕ) (t : Bool) → (nat_lt 0 n || t) ≡ nat_lt 0 (n + one t)
 unfolding one
 one_more n true = or_true (nat_lt 0 n) ∙ sym (lt-ltb 0 (n + 1) (omega arith))
-  where
-    or_true : (a : Bool) → (a || true) ≡ true
-    or_true true = refl
-    or_true false = refl
 one_more n false = or_false (nat_lt 0 n) ∙ ap (nat_lt 0) (let e : n ≡ n + 0 = omega arith in e)
-  where
-    or_false : (a : Bool) → (a || false) ≡ a
-    or_false true = refl
-    or_false false = refl
 
 line_met : (B : List (List ℕ)) (line : List ℕ) (old new : List Bool) → AreMet B old → length new ≡ POINTS_MAX * POINTS_MAX →
     ((x y : ℕ) → x < POINTS_MAX → y < POINTS_MAX → entry new x y ≡ (entry old x y || (holds x line && holds y line))) → AreMet (B ++ line ∷ []) new

@@ -1,9 +1,9 @@
 -- In a walk by least points two points are met exactly where they are not the two least points of their line.
 use Rattle.std.proofs.Common.{Bool, List, [], ap, arith, cond, false, inl, inr, refl, subst, suc, sym, true, zero, ℕ, ◌&&◌, ◌++◌, ◌+◌, ◌<◌, ◌∙◌, ◌∷◌, ◌≡◌, ◌⊎◌}
-use Rattle.std.proofs.lemmas.Bool.{and_parts, cases_Bool, cases_eq, false≢true, lt-ltb, ltb-true, not-false, not-true}
+use Rattle.counting.proofs.Booleans.{bool_same, both, cases_Bool, cases_eq, false≢true, lt-ltb, ltb-true, not-false, not-true}
 use Rattle.std.proofs.lemmas.List.{append_assoc}
 use Rattle.std.specs.Prelude.{nat_lt, not}
-use Rattle.counting.proofs.Counts.{bool_same, one-false}
+use Rattle.counting.proofs.Counts.{one-false}
 use Rattle.counting.specs.Sums.{join_below}
 use Rattle.design_base.proofs.Cover.{cover-cons, cover-none}
 use Rattle.design_base.specs.Blocks.{cover, holds}
@@ -23,7 +23,7 @@ record IsHolder (B : List (List ℕ)) (x y : ℕ) (b : List ℕ) : Type 0 where
 holder : (B : List (List ℕ)) (x y : ℕ) → 0 < cover B x y → (b : List ℕ) × IsHolder B x y b
 holder [] x y some = absurd (omega (arith, some, cover-none x y))
 holder (b ∷ B) x y some = elim (cases_Bool (holds x b && holds y b)) [
-  | inl e ↦ let h = and_parts _ _ e in (b, record { among = inl refl; first = h.0; second = h.1 })
+  | inl e ↦ let h = both _ _ e in (b, record { among = inl refl; first = h.0; second = h.1 })
   | inr e ↦
       let h = holder B x y (omega (arith, some, cover-cons b B x y, one-false (holds x b && holds y b) (λ f. false≢true (sym e ∙ f)))) in
       (h.0, record { among = inr h.1.among; first = h.1.first; second = h.1.second })

@@ -1,6 +1,6 @@
 -- Lists without repeats that are in one order and have the same elements are equal.
 use Rattle.std.proofs.Common.{Bool, List, [], ap, ap₂, inl, inr, map, refl, subst, sym, true, ℕ, ◌++◌, ◌∙◌, ◌∷◌, ◌≡◌, ◌≢◌, ◌⊎◌}
-use Rattle.std.proofs.lemmas.Bool.{cond_both}
+use Rattle.counting.proofs.Booleans.{cond_both}
 use Rattle.std.specs.Cmp.Lexicographic.{other_text, pointwise, same_text}
 use Rattle.std.specs.List.{AllByRecursion, dedup, dedup_from}
 use Rattle.std.specs.Prelude.{nat_eq}

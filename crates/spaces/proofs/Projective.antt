@@ -1,10 +1,9 @@
 -- The lines of a projective geometry: two points have one line.
 use Rattle.std.proofs.Common.{Bool, List, ap, ap₂, arith, get_or, inl, inr, length, refl, subst, suc, sym, true, zero, ℕ, ◌<◌, ◌∙◌, ◌≡◌, ◌≢◌}
-use Rattle.std.proofs.lemmas.Bool.{cases_eq, cases_lt, false≢true, or_cases, or_left, or_right}
+use Rattle.counting.proofs.Booleans.{bool_same, cases_eq, cases_lt, false≢true, or_cases, or_left, or_right}
 use Rattle.std.proofs.lemmas.List.Elements.{All-from_recursion, recursion_from_All}
 use Rattle.std.specs.List.{AllByRecursion}
 use Rattle.std.specs.Prelude.{filter}
-use Rattle.counting.proofs.Counts.{bool_same}
 use Rattle.counting.proofs.Lists.{all_filter}
 use Rattle.counting.proofs.Ranges.{All-join_below, each_below, length-list_below}
 use Rattle.counting.specs.Sums.{join_below, list_below}

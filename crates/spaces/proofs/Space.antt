@@ -1,9 +1,8 @@
 -- Lines in a space over a field: the points p + t * e.
 use Rattle.std.proofs.Common.{List, ap, arith, inl, inr, length, sym, true, ℕ, ◌<◌, ◌∙◌, ◌≡◌, ◌≢◌}
 use Rattle.std.proofs.Math.Nat.{pos_of_ne-zero}
-use Rattle.std.proofs.lemmas.Bool.{cases_eq}
+use Rattle.counting.proofs.Booleans.{bool_same, cases_eq}
 use Rattle.std.specs.List.{AllByRecursion}
-use Rattle.counting.proofs.Counts.{bool_same}
 use Rattle.counting.proofs.Ranges.{each_below, length-list_below}
 use Rattle.counting.specs.Sums.{list_below}
 use Rattle.design_base.proofs.Canonical.{Differs, differs_below}

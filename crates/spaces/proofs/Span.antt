@@ -1,7 +1,7 @@
 -- The plane of two vectors, and the vectors in it that are points.
 use Rattle.std.proofs.Common.{ap, ap₂, arith, inl, inr, subst, sym, ℕ, ◌<◌, ◌∙◌, ◌≡◌, ◌≢◌}
 use Rattle.std.proofs.Math.Nat.{pos_of_ne-zero}
-use Rattle.std.proofs.lemmas.Bool.{cases_eq}
+use Rattle.counting.proofs.Booleans.{cases_eq}
 use Rattle.design_base.specs.Rings.{HasInverses, IsCommutativeRing}
 use Rattle.field_tables.proofs.AnyField.{difference, divide}
 use Rattle.spaces.proofs.Space.{IsSpace, positive, scale_nonzero, sum_cancel, zero-scale}

@@ -1,7 +1,7 @@
 -- Pages that are kept, and words that are written in them.
 use Rattle.std.proofs.Common.{◌≡◌, ◌≢◌, ℕ, zero, suc, ◌+◌, ◌-◌, ◌*◌, ◌/◌, ◌%◌, ◌≤◌, ◌<◌, inl, inr, List, [], ◌∷◌, ◌++◌, cond, length, get_or, set, replicate, take, arith, refl, sym, ap, ◌∙◌, ◌^◌, subst}
 use Rattle.std.specs.Prelude.{slice_index}
-use Rattle.std.proofs.lemmas.Bool.{eq-eqb, ne_eqb, cases_eq}
+use Rattle.counting.proofs.Booleans.{cases_eq, eq-eqb, ne_eqb}
 use Rattle.std.proofs.lemmas.List.{length-set, length-append, length-replicate, get_or_append_left, get_or-append_right, get_or-set_same, get_or-set_other, ext_get_or, take_all, get_or-take, length-take-le}
 use Rattle.counting.specs.Sums.{list_below}
 use Rattle.counting.proofs.Ranges.{length-list_below, get_or-list_below}

@@ -5,7 +5,7 @@ use Rattle.std.proofs.lemmas.List.{length-map}
 use Rattle.std.proofs.lemmas.List.Concat.{length-flat_map}
 use Rattle.std.proofs.lemmas.Nat.{div_below, mul-add-lt}
 use Rattle.std.specs.Prelude.{All}
-use Rattle.counting.proofs.Counts.{and_swap}
+use Rattle.counting.proofs.Booleans.{and_swap}
 use Rattle.counting.proofs.Lists.{All-flat_map_of, All-map_of, one-and, sum_by-agree, sum_by-flat_map, sum_by-map, sum_by-mul, sum_by-mul-one}
 use Rattle.counting.proofs.Ranges.{get_or-list_below, length-list_below}
 use Rattle.counting.specs.Sums.{one}

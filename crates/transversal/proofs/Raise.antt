@@ -4,7 +4,8 @@ use Rattle.std.proofs.lemmas.Bool.Decides.{nat_tests}
 use Rattle.std.proofs.lemmas.List.{get_or-map, length-map}
 use Rattle.std.specs.List.{sum_by}
 use Rattle.std.specs.Prelude.{All}
-use Rattle.counting.proofs.Counts.{bool_same, both_equal, one-false}
+use Rattle.counting.proofs.Booleans.{bool_same, both_equal}
+use Rattle.counting.proofs.Counts.{one-false}
 use Rattle.counting.proofs.Lists.{All-map_of, sum_by-agree, sum_by-map, sum_by-none}
 use Rattle.counting.specs.Sums.{one}
 use Rattle.design_base.proofs.Rows.{agree-is}

@@ -3,13 +3,13 @@ use Rattle.std.proofs.Common.{◌≡◌, ℕ, ◌+◌, ◌-◌, ◌%◌, ◌<◌
 use Rattle.std.specs.Prelude.{All, nat_lt}
 use Rattle.std.specs.List.{sum_by}
 use Rattle.std.proofs.Math.Nat.{zero-add, mod-lt, mod-eq_of_lt, add-mod_right}
-use Rattle.std.proofs.lemmas.Bool.{cases_lt, cases_eq, cond_below, cond_above, eqb-true, eq-eqb}
+use Rattle.counting.proofs.Booleans.{both_equal, both_equal-from, cases_eq, cases_lt, cond_above, cond_below, eq-eqb, eqb-true}
 use Rattle.std.proofs.lemmas.Bool.Decides.{nat_tests}
 use Rattle.std.proofs.lemmas.List.{get_or-map, length-map}
 use Rattle.counting.specs.Sums.{one, sum_below, join_below}
 use Rattle.design_base.specs.Arrays.{agree, IsRow}
 use Rattle.transversal.specs.Constructions.{translated, translate, translates_below}
-use Rattle.counting.proofs.Counts.{sum_below-same, count_one, count_none, both_equal, both_equal-from, one-true, one-false}
+use Rattle.counting.proofs.Counts.{sum_below-same, count_one, count_none, one-true, one-false}
 use Rattle.counting.proofs.Lists.{sum_by-agree, sum_by-map, sum_by-join_below, sum_by-sum_below, All-map_of}
 use Rattle.counting.proofs.Ranges.{All-join_below}
 use Rattle.design_base.proofs.Rows.{agree-is}

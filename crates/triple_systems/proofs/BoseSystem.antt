@@ -1,6 +1,6 @@
 -- The Bose construction gives a triple system.
 use Rattle.std.proofs.Common.{List, arith, inl, inr, subst, sym, ℕ, ◌%◌, ◌*◌, ◌++◌, ◌+◌, ◌/◌, ◌<◌, ◌∙◌, ◌≡◌}
-use Rattle.std.proofs.lemmas.Bool.{cases_eq}
+use Rattle.counting.proofs.Booleans.{cases_eq}
 use Rattle.std.proofs.lemmas.List.Elements.{All-append}
 use Rattle.design_base.proofs.Canonical.{IsLoose, IsPointSet, design_from_loose}
 use Rattle.design_base.proofs.Cover.{cover-append}

@@ -1,7 +1,7 @@
 -- The half-idempotent square of order 2t.
 use Rattle.std.proofs.Common.{ap, arith, inl, inr, ℕ, ◌%◌, ◌*◌, ◌+◌, ◌-◌, ◌<◌, ◌∙◌, ◌≡◌}
 use Rattle.std.proofs.Math.Nat.{mod-eq_of_lt, mod-lt}
-use Rattle.std.proofs.lemmas.Bool.{cases_lt}
+use Rattle.counting.proofs.Booleans.{cases_lt}
 use Rattle.std.proofs.lemmas.Bool.Decides.{nat_tests}
 use Rattle.counting.proofs.Residues.{add_cancels, add_solves, mod_from_same}
 use Rattle.triple_systems.proofs.LatinSquares.{symmetric_from_rows}

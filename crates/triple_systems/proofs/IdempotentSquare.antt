@@ -1,7 +1,7 @@
 -- The idempotent squares, of each order but 2.
 use Rattle.std.proofs.Common.{ap, arith, inl, inr, refl, subst, sym, ℕ, ◌%◌, ◌*◌, ◌+◌, ◌-◌, ◌/◌, ◌<◌, ◌∙◌, ◌≡◌, ◌≢◌}
 use Rattle.std.proofs.Math.Nat.{mod-eq_of_lt, mod-lt}
-use Rattle.std.proofs.lemmas.Bool.{cases_eq}
+use Rattle.counting.proofs.Booleans.{cases_eq}
 use Rattle.std.proofs.lemmas.Bool.Decides.{nat_tests}
 use Rattle.counting.proofs.Residues.{add_cancels, add_solves, mod_from_same, same_mod}
 use Rattle.triple_systems.proofs.HalfSums.{half_sum-self, half_sum_is, half_sum_square, odd}

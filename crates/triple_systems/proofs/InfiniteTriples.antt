@@ -1,6 +1,6 @@
 -- Which points the triples with the infinite point hold.
 use Rattle.std.proofs.Common.{Bool, List, arith, inl, true, ℕ, ◌%◌, ◌&&◌, ◌+◌, ◌<◌, ◌∙◌, ◌≡◌, ◌≢◌, ◌≤◌, ◌⊎◌}
-use Rattle.std.proofs.lemmas.Bool.{and_from, and_parts}
+use Rattle.counting.proofs.Booleans.{and_from, both}
 use Rattle.std.proofs.lemmas.List.Elements.{All-from_recursion}
 use Rattle.std.specs.Prelude.{All}
 use Rattle.counting.proofs.Counts.{grid_none, grid_one}
@@ -35,16 +35,16 @@ module _ (n s m : ℕ) (fits : m + s ≤ n) where
 
   pub infinite_one : (c d x y i a : ℕ) → x < n → y < n → i < 3 → a < m → InTriple i a c x → InTriple i a d y → ((j b : ℕ) → j < 3 → b < m → InTriple j b c x → InTriple j b d y → (j ≡ i) × (b ≡ a)) → cover (infinite_triples n s m 3) (place n c x) (place n d y) ≡ 1
   infinite_one c d x y i a l k h g p q u = counted c x d y ∙ grid_one 3 m i a (Both c x d y) h g (both-from c x d y i a p q)
-      (λ j b z w e. let es = and_parts _ _ e in u j b z w (in_triple j b c x w l es.0) (in_triple j b d y w k es.1))
+      (λ j b z w e. let es = both _ _ e in u j b z w (in_triple j b c x w l es.0) (in_triple j b d y w k es.1))
 
   pub infinite_two : (c d x y i a j b : ℕ) → x < n → y < n → i < 3 → a < m → j < 3 → b < m → (i ≢ j) ⊎ (a ≢ b) → InTriple i a c x → InTriple i a d y → InTriple j b c x → InTriple j b d y →
       ((o f : ℕ) → o < 3 → f < m → InTriple o f c x → InTriple o f d y → ((o ≡ i) × (f ≡ a)) ⊎ ((o ≡ j) × (f ≡ b))) → cover (infinite_triples n s m 3) (place n c x) (place n d y) ≡ 2
   infinite_two c d x y i a j b l k h g hh gg ne p q r t u = counted c x d y ∙ grid_two 3 m i a j b (Both c x d y) h g hh gg ne (both-from c x d y i a p q) (both-from c x d y j b r t)
-      (λ o f z w e. let es = and_parts _ _ e in u o f z w (in_triple o f c x w l es.0) (in_triple o f d y w k es.1))
+      (λ o f z w e. let es = both _ _ e in u o f z w (in_triple o f c x w l es.0) (in_triple o f d y w k es.1))
 
   pub infinite_none : (c d x y : ℕ) → x < n → y < n → ((j b : ℕ) → j < 3 → b < m → InTriple j b c x → InTriple j b d y → ⊥) → cover (infinite_triples n s m 3) (place n c x) (place n d y) ≡ 0
   infinite_none c d x y l k u = counted c x d y ∙ grid_none 3 m (Both c x d y)
-      (λ j b z w e. let es = and_parts _ _ e in u j b z w (in_triple j b c x w l es.0) (in_triple j b d y w k es.1))
+      (λ j b z w e. let es = both _ _ e in u j b z w (in_triple j b c x w l es.0) (in_triple j b d y w k es.1))
 
   -- such a triple has three different points
   pub infinite_sets : (v : ℕ) → ((i x : ℕ) → i < 3 → x < n → place n i x < v) → place n 3 0 < v → All (IsPointSet v (λ s. s ≡ 3)) (infinite_triples n s m 3)

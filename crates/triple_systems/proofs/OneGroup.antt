@@ -1,10 +1,10 @@
 -- The blocks x, y, op x y of points that are in no groups: above all pairs x < y, and above all ordered pairs.
 use Rattle.std.proofs.Common.{Bool, List, [], ap, ap₂, arith, false, inl, inr, not, refl, subst, sym, true, ℕ, ◌%◌, ◌&&◌, ◌*◌, ◌+◌, ◌/◌, ◌<◌, ◌==◌, ◌||◌, ◌∙◌, ◌∷◌, ◌≡◌, ◌≢◌, ◌≤◌, ◌⊎◌}
-use Rattle.std.proofs.lemmas.Bool.{cases_eq, cases_order, cond_both, eq-eqb, eqb-false, false≢true, ne_eqb}
+use Rattle.counting.proofs.Booleans.{both_equal, both_equal-from, cases_eq, cases_order, cond_both, eq-eqb, eqb-false, false≢true, ne_eqb}
 use Rattle.std.proofs.lemmas.Bool.Decides.{nat_tests}
 use Rattle.std.proofs.lemmas.List.Elements.{All-cons, All-from_recursion, All-nil}
 use Rattle.std.specs.Prelude.{All}
-use Rattle.counting.proofs.Counts.{both_equal, both_equal-from, count_pairs, grid_one, one-false, pairs_one, sum_below-add, sum_below-same}
+use Rattle.counting.proofs.Counts.{count_pairs, grid_one, one-false, pairs_one, sum_below-add, sum_below-same}
 use Rattle.counting.proofs.Grids.{grid, grid_add, grid_same}
 use Rattle.counting.proofs.Ranges.{All-join_below, each_below}
 use Rattle.counting.specs.Sums.{one, sum_below}

@@ -1,6 +1,6 @@
 -- Which points the triples above the ordered pairs of one group hold, where the products are in another group.
 use Rattle.std.proofs.Common.{Bool, List, [], ap, arith, cond, false, inl, inr, not, refl, sym, true, ℕ, ◌%◌, ◌&&◌, ◌+◌, ◌<◌, ◌==◌, ◌∙◌, ◌∷◌, ◌≡◌, ◌≢◌, ◌⊎◌}
-use Rattle.std.proofs.lemmas.Bool.{and_from, and_parts, cond_both, eqb-false, ne_eqb}
+use Rattle.counting.proofs.Booleans.{and_from, both, cond_both, eqb-false, ne_eqb}
 use Rattle.std.proofs.lemmas.List.Elements.{All-cons, All-nil}
 use Rattle.std.specs.Prelude.{All}
 use Rattle.counting.proofs.Counts.{grid_none, sum_below-same}
@@ -57,11 +57,11 @@ module _ (n : ℕ) (op : ℕ → ℕ → ℕ) (square : IsLatin n op) (idempoten
       ((p q : ℕ) → p < n → q < n → p ≢ q → Meets n op i j c x p q → Meets n op i j d y p q → ((q ≡ b) × (p ≡ a)) ⊎ ((q ≡ g) × (p ≡ f))) → cover (ordered_triples_above n op i j n) (place n c x) (place n d y) ≡ 2
   covers_two c x d y a b f g l m la lb lf lg ab fg ne u v w z only = counted c x d y
       ∙ grid_two n n b a g f (Both c x d y) lb la lg lf ne (both-from c x d y b a ab u v) (both-from c x d y g f fg w z)
-      (λ q p k h t. let ts = not_parts _ _ t in let hs = and_parts _ _ ts.1 in only p q h k (eqb-false p q ts.0) (above_meets c x p q l h k hs.0) (above_meets d y p q m h k hs.1))
+      (λ q p k h t. let ts = not_parts _ _ t in let hs = both _ _ ts.1 in only p q h k (eqb-false p q ts.0) (above_meets c x p q l h k hs.0) (above_meets d y p q m h k hs.1))
 
   covers_none : (c x d y : ℕ) → x < n → y < n → ((p q : ℕ) → p < n → q < n → p ≢ q → Meets n op i j c x p q → Meets n op i j d y p q → ⊥) → cover (ordered_triples_above n op i j n) (place n c x) (place n d y) ≡ 0
   covers_none c x d y l m none = counted c x d y ∙ grid_none n n (Both c x d y)
-      (λ q p k h t. let ts = not_parts _ _ t in let hs = and_parts _ _ ts.1 in none p q h k (eqb-false p q ts.0) (above_meets c x p q l h k hs.0) (above_meets d y p q m h k hs.1))
+      (λ q p k h t. let ts = not_parts _ _ t in let hs = both _ _ ts.1 in none p q h k (eqb-false p q ts.0) (above_meets c x p q l h k hs.0) (above_meets d y p q m h k hs.1))
 
   -- a point and a product stand together above two pairs, in which the point is first and in which it is last
   risen : (x y : ℕ) → x < n → y < n → y ≢ op x x → cover (ordered_triples_above n op i j n) (place n i x) (place n j y) ≡ 2

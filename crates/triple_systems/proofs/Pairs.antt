@@ -1,6 +1,6 @@
 -- Which points the triples above the pairs of one group hold.
 use Rattle.std.proofs.Common.{Bool, List, arith, inl, inr, refl, true, ℕ, ◌&&◌, ◌<◌, ◌∙◌, ◌≡◌, ◌≢◌, ◌⊎◌}
-use Rattle.std.proofs.lemmas.Bool.{and_from, and_parts, cases_order}
+use Rattle.counting.proofs.Booleans.{and_from, both, cases_order}
 use Rattle.std.proofs.lemmas.List.Elements.{All-from_recursion}
 use Rattle.std.specs.Prelude.{All}
 use Rattle.counting.proofs.Counts.{count_pairs, pairs_none, pairs_one}
@@ -29,11 +29,11 @@ module _ (n : ℕ) (op : ℕ → ℕ → ℕ) (square : IsSymmetric n op) (i j :
   -- two points that one pair alone meets, and two that none does
   covers_one : (c x d y a b : ℕ) → x < n → y < n → a < b → b < n → Meets n op i j c x a b → Meets n op i j d y a b → ((p q : ℕ) → p < q → q < n → Meets n op i j c x p q → Meets n op i j d y p q → (p ≡ a) × (q ≡ b)) → cover (triples_above n op i j n) (place n c x) (place n d y) ≡ 1
   covers_one c x d y a b l m s t u v w = counted c x d y ∙ pairs_one n a b (Both c x d y) s t (and_from _ _ (meets-from n op i j c x a b u) (meets-from n op i j d y a b v))
-      (λ p q k z h. let hs = and_parts _ _ h in w p q k z (above_meets c x p q l k z hs.0) (above_meets d y p q m k z hs.1))
+      (λ p q k z h. let hs = both _ _ h in w p q k z (above_meets c x p q l k z hs.0) (above_meets d y p q m k z hs.1))
 
   covers_none : (c x d y : ℕ) → x < n → y < n → ((p q : ℕ) → p < q → q < n → Meets n op i j c x p q → Meets n op i j d y p q → ⊥) → cover (triples_above n op i j n) (place n c x) (place n d y) ≡ 0
   covers_none c x d y l m w = counted c x d y ∙ pairs_none n (Both c x d y)
-      (λ p q k z h. let hs = and_parts _ _ h in w p q k z (above_meets c x p q l k z hs.0) (above_meets d y p q m k z hs.1))
+      (λ p q k z h. let hs = both _ _ h in w p q k z (above_meets c x p q l k z hs.0) (above_meets d y p q m k z hs.1))
 
   -- two points of the pairs' group stand together once
   lower_pair_lt : (x y : ℕ) → x < y → y < n → cover (triples_above n op i j n) (place n i x) (place n i y) ≡ 1

@@ -1,6 +1,6 @@
 -- A Latin square with one row and one column more.
 use Rattle.std.proofs.Common.{ap, ap₂, arith, inl, inr, sym, ℕ, ◌+◌, ◌<◌, ◌∙◌, ◌≡◌, ◌≢◌, ◌⊎◌}
-use Rattle.std.proofs.lemmas.Bool.{cases_eq}
+use Rattle.counting.proofs.Booleans.{cases_eq}
 use Rattle.triple_systems.specs.Squares.{IsLatin}
 
 -- a square with one row and one column more: the entries of L at x and up x moved there

@@ -1,7 +1,7 @@
 -- In a transversal design some block is disjoint from the first one.
 use Rattle.std.proofs.Common.{List, [], ap, arith, get_or, inl, inr, length, refl, suc, sym, zero, ℕ, ◌*◌, ◌+◌, ◌<◌, ◌==◌, ◌∙◌, ◌∷◌, ◌≡◌, ◌≢◌, ◌≤◌}
 use Rattle.std.proofs.Math.Nat.{mul-le-mul_left}
-use Rattle.std.proofs.lemmas.Bool.{cases_eq, cases_lt, eq-eqb, eqb-false, eqb-true}
+use Rattle.counting.proofs.Booleans.{cases_eq, cases_lt, eq-eqb, eqb-false, eqb-true}
 use Rattle.std.proofs.lemmas.List.Sums.{fails_before_first, passes_at_first, sum_by-cons}
 use Rattle.std.specs.List.{position_or_len, sum_by}
 use Rattle.counting.proofs.Counts.{one-true}

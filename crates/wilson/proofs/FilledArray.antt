@@ -1,13 +1,13 @@
 -- Filled master rows and the rows of infinite points are an orthogonal array.
 use Rattle.std.proofs.Common.{Bool, List, ap, ap₂, arith, get_or, inl, inr, length, refl, subst, sym, true, ℕ, ◌%◌, ◌&&◌, ◌*◌, ◌++◌, ◌+◌, ◌-◌, ◌/◌, ◌<◌, ◌==◌, ◌∙◌, ◌≡◌, ◌≢◌, ◌≤◌, ◌⊎◌}
 use Rattle.std.proofs.Math.Nat.{div-add-mod', mod-lt}
-use Rattle.std.proofs.lemmas.Bool.{cases_eq, cases_lt, cond_above, cond_below, eq-eqb, eqb-true}
+use Rattle.counting.proofs.Booleans.{bool_same, both_equal, both_equal-from, cases_eq, cases_lt, cond_above, cond_below, eq-eqb, eqb-true}
 use Rattle.std.proofs.lemmas.List.Elements.{All-append}
 use Rattle.std.proofs.lemmas.List.Sums.{sum_by-append}
 use Rattle.std.proofs.lemmas.Nat.{div_below, mul-add-lt, same_from_place}
 use Rattle.std.specs.List.{flat_map, sum_by}
 use Rattle.std.specs.Prelude.{All}
-use Rattle.counting.proofs.Counts.{bool_same, both_equal, both_equal-from, one-false, one-true}
+use Rattle.counting.proofs.Counts.{one-false, one-true}
 use Rattle.counting.proofs.Lists.{All-flat_map_of, All-map_of, sum_by-agree, sum_by-flat_map, each_all, sum_by-map, sum_by-none, sum_by-same}
 use Rattle.counting.proofs.Ranges.{get_or-list_below, length-list_below}
 use Rattle.counting.specs.Sums.{list_below, one}

@@ -1,12 +1,12 @@
 -- Orthogonal arrays without one row, and without two rows that differ in every column.
 use Rattle.std.proofs.Common.{List, [], ap₂, arith, cond, drop, get_or, inl, inr, length, map, refl, sym, take, ℕ, zero, suc, ◌&&◌, ◌+◌, ◌<◌, ◌==◌, ◌∙◌, ◌∷◌, ◌≡◌, ◌≢◌, ◌≤◌}
-use Rattle.std.proofs.lemmas.Bool.{cases_eq}
+use Rattle.counting.proofs.Booleans.{bool_same, both_equal, both_equal-from, cases_eq}
 use Rattle.std.proofs.lemmas.Bool.Decides.{nat_tests}
 use Rattle.std.proofs.lemmas.List.Elements.{All-append, All-drop, All-tail, All-take, All-weaker}
 use Rattle.std.proofs.lemmas.List.Sums.{sum_by-cons, sum_by-remove}
 use Rattle.std.specs.List.{remove}
 use Rattle.std.specs.Prelude.{All, nat_lt}
-use Rattle.counting.proofs.Counts.{bool_same, both_equal, both_equal-from, one-false, one-true}
+use Rattle.counting.proofs.Counts.{one-false, one-true}
 use Rattle.counting.proofs.Lists.{All-map_of, sum_by-agree, sum_by-map}
 use Rattle.counting.proofs.Ranges.{get_or-list_below, length-list_below}
 use Rattle.counting.specs.Sums.{list_below, one}

@@ -1,6 +1,6 @@
 -- Wilson's rows with one truncated group are an orthogonal array.
 use Rattle.std.proofs.Common.{List, [], ap, arith, get_or, inl, inr, refl, ℕ, ◌*◌, ◌+◌, ◌-◌, ◌<◌, ◌∙◌, ◌∷◌, ◌≡◌, ◌≤◌}
-use Rattle.std.proofs.lemmas.Bool.{cond_both, ltb-false, ltb-true}
+use Rattle.counting.proofs.Booleans.{cond_both, ltb-false, ltb-true}
 use Rattle.std.specs.Prelude.{nat_lt}
 use Rattle.design_base.specs.Arrays.{IsOa}
 use Rattle.transversal.proofs.Raise.{raised_agree, raised_none, raised_rows}

@@ -2,7 +2,7 @@
 use Rattle.std.proofs.Common.{List, Some, [], ap, ap₂, arith, drop, get_or, inl, inr, length, map, refl, slice_set, suc, zero, subst, sym, take, ℕ, ◌%◌, ◌*◌, ◌++◌, ◌+◌, ◌-◌, ◌<◌, ◌∙◌, ◌∷◌, ◌≡◌, ◌≢◌, ◌≤◌}
 use Rattle.std.proofs.lemmas.List.{append-nil, append_assoc, length-map, length-take-le, map-append, take_all, take_more, take_more_set}
 use Rattle.std.proofs.lemmas.List.Edits.{length-remove, remove-append_left}
-use Rattle.std.proofs.lemmas.Bool.{cases_lt, cond_above, cond_below}
+use Rattle.counting.proofs.Booleans.{cases_lt, cond_above, cond_below}
 use Rattle.std.specs.List.{flat_map, remove}
 use Rattle.std.proofs.lemmas.Option.{get_or_from_slice_get}
 use Rattle.std.specs.Prelude.{slice_get}

@@ -1,6 +1,6 @@
 -- Wilson's rows with two truncated groups are an orthogonal array.
 use Rattle.std.proofs.Common.{List, [], ap, ap₂, arith, cond, get_or, inl, inr, refl, sym, ℕ, ◌*◌, ◌++◌, ◌+◌, ◌-◌, ◌<◌, ◌==◌, ◌∙◌, ◌∷◌, ◌≡◌, ◌≢◌, ◌≤◌, ◌⊎◌}
-use Rattle.std.proofs.lemmas.Bool.{cases_eq, cases_lt, cond_both, ltb-false, ltb-true}
+use Rattle.counting.proofs.Booleans.{cases_eq, cases_lt, cond_both, ltb-false, ltb-true}
 use Rattle.std.proofs.lemmas.Bool.Decides.{nat_tests}
 use Rattle.std.proofs.lemmas.List.Elements.{All-append}
 use Rattle.std.proofs.lemmas.List.Sums.{sum_by-append}

@@ -1,5 +1,5 @@
 use Rattle.std.proofs.Common.{ap, arith, length, subst, sym, ◌*◌, ◌+◌, ◌^◌, ◌∙◌, ◌≡◌}
-use Rattle.std.proofs.lemmas.Bool.{false≢true}
+use Rattle.counting.proofs.Booleans.{false≢true}
 use Rattle.std.specs.Prelude.{All, IfSome, is_some}
 use Rattle.design_base.specs.Blocks.{IsBibd}
 use Rattle.plane_curves.specs.Secants.{IsOver}

@@ -1,5 +1,5 @@
 use Rattle.std.proofs.Common.{inl, inr, sym, arith, length, ◌∙◌, ◌<◌}
-use Rattle.std.proofs.lemmas.Bool.{eqb-true}
+use Rattle.counting.proofs.Booleans.{eqb-true}
 use Rattle.std.proofs.lemmas.Grind.{common_steps}
 use Rattle.block_texts.proofs.Shortened.{row_kept, row_not_kept}
 use Rattle.block_texts.proofs.blocks.push_until_short.Goals.{then-is_empty-via-then-is_empty, then-is_empty-via-else-is_empty+then-ends_short}

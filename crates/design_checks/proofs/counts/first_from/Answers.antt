@@ -1,5 +1,5 @@
 use Rattle.std.proofs.Common.{arith, of_calls, rules}
-use Rattle.std.proofs.lemmas.Bool.{ltb-false, ltb-true}
+use Rattle.counting.proofs.Booleans.{ltb-false, ltb-true}
 use Rattle.std.proofs.lemmas.Fn.{always_returns_same}
 use Rattle.std.specs.Prelude.{nat_lt}
 use Rattle.design_checks.proofs.Increasing.{below_in_front}

@@ -1,5 +1,5 @@
 use Rattle.std.proofs.Common.{arith, inl, inr, sym, ◌∙◌, ◌≡◌, ap}
-use Rattle.std.proofs.lemmas.Bool.{cases_eq}
+use Rattle.counting.proofs.Booleans.{cases_eq}
 use Rattle.design_base.specs.Blocks.{differences}
 use Rattle.design_base.specs.Meets.{group_add}
 use Rattle.design_checks.proofs.Families.{differences-covers, differences-few}

@@ -1,5 +1,5 @@
 use Rattle.std.proofs.Common.{ap, arith, inl, inr, subst, sym, ◌∙◌, get_or}
-use Rattle.std.proofs.lemmas.Bool.{cases_eq}
+use Rattle.counting.proofs.Booleans.{cases_eq}
 use Rattle.std.proofs.lemmas.Option.{get_or_from_slice_get}
 use Rattle.design_checks.specs.Bits.{IsAcross}
 use Rattle.design_checks.proofs.transversal.are_across.Goals as goal

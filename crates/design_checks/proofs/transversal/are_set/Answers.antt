@@ -1,5 +1,5 @@
 use Rattle.std.proofs.Common.{ap, arith, inl, inr, ◌*◌, ◌+◌, ◌∙◌}
-use Rattle.std.proofs.lemmas.Bool.{cases_eq}
+use Rattle.counting.proofs.Booleans.{cases_eq}
 use Rattle.std.specs.Int.{bit_at}
 use Rattle.design_checks.proofs.ByBits.{full_word, word_within}
 use Rattle.design_checks.specs.declared.transversal.TheConstants.{GROUPS}

@@ -1,5 +1,5 @@
 use Rattle.std.proofs.Common.{arith, ◌≡◌, ◌<◌, ◌∙◌, sym, length}
-use Rattle.std.proofs.lemmas.Bool.{eqb-true, eqb-false}
+use Rattle.counting.proofs.Booleans.{eqb-false, eqb-true}
 use Rattle.std.proofs.Math.Nat.{pos_of_ne-zero}
 use Rattle.field_tables.proofs.Fill.{positive, small, sum_first, sum_inside, sum_after, sum_below}
 use Rattle.field_tables.proofs.ring.next_sum.Goals as goal

@@ -1,5 +1,5 @@
 use Rattle.std.proofs.Common.{ap, ap₂, arith, not, sym, ◌-◌, ◌==◌, ◌∙◌, ◌≡◌}
-use Rattle.std.proofs.lemmas.Bool.{eq-eqb, ne_eqb}
+use Rattle.counting.proofs.Booleans.{eq-eqb, ne_eqb}
 use Rattle.counting.proofs.Upward.{each_upward_here, each_upward_later, upward-none}
 use Rattle.counting.specs.Search.{each_passes}
 use Rattle.design_base.specs.Fields.{field_product, field_sum}

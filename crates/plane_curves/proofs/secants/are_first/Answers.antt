@@ -1,5 +1,5 @@
 use Rattle.std.proofs.Common.{arith, false, inl, inr, subst, sym, ◌∙◌, ◌≡◌}
-use Rattle.std.proofs.lemmas.Bool.{cases_eq}
+use Rattle.counting.proofs.Booleans.{cases_eq}
 use Rattle.design_base.specs.Fields.{field_product, field_sum}
 use Rattle.plane_curves.proofs.SecantSteps.{first_from, on_line, third_on}
 use Rattle.plane_curves.specs.Secants.{is_on_line, vector_at}
