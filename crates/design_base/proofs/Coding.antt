@@ -14,7 +14,7 @@ use Rattle.design_base.specs.Codes.{code, read_code, verdict_in, step_if, is_own
 use Rattle.design_base.specs.Rules.{number_of_rule, rule_numbered, rules, title}
 use Rattle.design_base.specs.Steps.{Step, IsStep, step}
 
-pub number_small : (r : Rule) → number_of_rule r ≤ 43
+pub number_small : (r : Rule) → number_of_rule r ≤ length rules
 number_small TdOne = omega arith
 number_small r = omega arith
 
@@ -55,10 +55,10 @@ rule_found i r ys e =
     let n : number_of_rule r ≡ i + 1 = omega (arith, k) in
     ap rule_numbered (sym n) ∙ rule_back r
 
-pub rule_none : (i : ℕ) → (i ≡ 0) ⊎ (43 < i) → rule_numbered i ≡ None
+pub rule_none : (i : ℕ) → (i ≡ 0) ⊎ (length rules < i) → rule_numbered i ≡ None
 rule_none i h = none_numbered 0 i rules refl (by h)
   where
-    by : (i ≡ 0) ⊎ (43 < i) → (i ≤ 0) ⊎ (0 + length rules < i)
+    by : (i ≡ 0) ⊎ (length rules < i) → (i ≤ 0) ⊎ (0 + length rules < i)
     by (inl e) = inl (omega arith)
     by (inr l) = inr (omega arith)
 
@@ -93,7 +93,7 @@ record Parts (n a b c d x : ℕ) : Type 0 where
   pub third : x / 2 ^ 40 % 4096 ≡ c
   pub fourth : x / 2 ^ 52 ≡ d
 
-parts : (n a b c d : ℕ) → n ≤ 43 → a ≤ PARAMETER_MAX → b ≤ PARAMETER_MAX → c ≤ PARAMETER_MAX → d ≤ PARAMETER_MAX
+parts : (n a b c d : ℕ) → n ≤ length rules → a ≤ PARAMETER_MAX → b ≤ PARAMETER_MAX → c ≤ PARAMETER_MAX → d ≤ PARAMETER_MAX
     → Parts n a b c d (3 + 256 * n + 2 ^ 16 * a + 2 ^ 28 * b + 2 ^ 40 * c + 2 ^ 52 * d)
 parts n a b c d hn ha hb hc hd = record {
   tag = omega arith;
