@@ -1,9 +1,10 @@
--- What follows in any commutative ring of the numbers below q, and in any field.
+-- What follows in any commutative ring of the numbers below q, and in any field; FieldLaws has what a field gives under one name each,
+-- for open field_laws q add mul field use {..}.
 use Rattle.std.proofs.Common.{◌≡◌, ◌≢◌, ℕ, ◌<◌, arith, ap, sym, ◌∙◌, inl, inr}
 use Rattle.std.specs.Prelude.{◌⊎◌}
 use Rattle.std.proofs.Math.Nat.{pos_of_ne-zero}
 use Rattle.counting.proofs.Booleans.{cases_lt}
-use Rattle.design_base.specs.Rings.{IsCommutativeRing, HasInverses}
+use Rattle.design_base.specs.Rings.{IsCommutativeRing, IsField, HasInverses}
 use Rattle.field_tables.proofs.AnyGroup.{ring_sums, group_left, group_cancel, group_difference}
 
 -- regroup by simp with r.sums_associate, r.sums_commute and sums_left, multiply out with r.products_distribute and distribute_right
@@ -29,12 +30,20 @@ module _ (q : ℕ) (add mul : ℕ → ℕ → ℕ) (r : IsCommutativeRing q add 
   pub difference_once : (x z c d : ℕ) → c < q → d < q → add x c ≡ z → add x d ≡ z → c ≡ d
   difference_once x z c d hc hd e f = add_cancel x c d hc hd (e ∙ sym f)
 
+  pub zero_below : 0 < q
+  zero_below = omega (arith, r.one_below)
+
+  pub zero_sum : add 0 0 ≡ 0
+  zero_sum = r.zero_neutral 0 zero_below
+
   -- a product by 0
   pub mul-zero : (x : ℕ) → mul x 0 ≡ 0
   mul-zero x =
-      let zero_below : 0 < q = (let h : 1 < q = r.one_below in omega arith) in
       add_cancel (mul x 0) (mul x 0) 0 (r.products_below x 0) zero_below
-      (sym (r.products_distribute x 0 0) ∙ ap (mul x) (r.zero_neutral 0 zero_below) ∙ sym (r.zero_neutral (mul x 0) (r.products_below x 0)))
+      (sym (r.products_distribute x 0 0) ∙ ap (mul x) zero_sum ∙ sym (r.zero_neutral (mul x 0) (r.products_below x 0)))
+
+  pub zero-mul : (x : ℕ) → mul 0 x ≡ 0
+  zero-mul x = r.products_commute 0 x ∙ mul-zero x
 
   module _ (inverses : HasInverses q mul) where
     -- x times the quotient is z
@@ -91,3 +100,35 @@ module _ (q : ℕ) (add mul : ℕ → ℕ → ℕ) (r : IsCommutativeRing q add 
 
       pub lines_meet_once : (x y : ℕ) → x < q → y < q → add (mul m x) b ≡ add (mul k x) c → add (mul m y) b ≡ add (mul k y) c → x ≡ y
       lines_meet_once x y hx hy e f = mul_cancel slope.0 x y slope_positive slope.1 hx hy (met x e ∙ sym (met y f))
+
+pub record FieldLaws (q : ℕ) (add mul : ℕ → ℕ → ℕ) : Type 0 where
+  pub zero_below : 0 < q
+  pub zero_sum : add 0 0 ≡ 0
+  pub mul-zero : (x : ℕ) → mul x 0 ≡ 0
+  pub zero-mul : (x : ℕ) → mul 0 x ≡ 0
+  pub sums_left : (x y z : ℕ) → add x (add y z) ≡ add y (add x z)
+  pub products_left : (x y z : ℕ) → mul x (mul y z) ≡ mul y (mul x z)
+  pub distribute_right : (x y z : ℕ) → mul (add x y) z ≡ add (mul x z) (mul y z)
+  pub add_cancel : (x y z : ℕ) → y < q → z < q → add x y ≡ add x z → y ≡ z
+  pub difference : (x z : ℕ) → z < q → (d : ℕ) × (d < q) × (add x d ≡ z)
+  pub divide : (x z : ℕ) → 0 < x → x < q → z < q → (y : ℕ) × (y < q) × (mul x y ≡ z)
+  pub divide_once : (x z c d : ℕ) → 0 < x → x < q → c < q → d < q → mul x c ≡ z → mul x d ≡ z → c ≡ d
+  pub mul_cancel : (x y z : ℕ) → 0 < x → x < q → y < q → z < q → mul x y ≡ mul x z → y ≡ z
+  pub no_zero_divisors : (x y : ℕ) → x < q → y < q → mul x y ≡ 0 → (x ≡ 0) ⊎ (y ≡ 0)
+
+pub field_laws : (q : ℕ) (add mul : ℕ → ℕ → ℕ) → IsField q add mul → FieldLaws q add mul
+field_laws q add mul field = record {
+  zero_below = zero_below q add mul field.ring;
+  zero_sum = zero_sum q add mul field.ring;
+  mul-zero = mul-zero q add mul field.ring;
+  zero-mul = zero-mul q add mul field.ring;
+  sums_left = sums_left q add mul field.ring;
+  products_left = products_left q add mul field.ring;
+  distribute_right = distribute_right q add mul field.ring;
+  add_cancel = add_cancel q add mul field.ring;
+  difference = difference q add mul field.ring;
+  divide = divide q add mul field.ring field.inverses;
+  divide_once = divide_once q add mul field.ring field.inverses;
+  mul_cancel = mul_cancel q add mul field.ring field.inverses;
+  no_zero_divisors = no_zero_divisors q add mul field.ring field.inverses;
+}

@@ -1,5 +1,5 @@
 -- Powers that are marked, one after another.
-use Rattle.std.proofs.Common.{◌≡◌, ℕ, ◌<◌, suc, Bool, true, false, List, length, slice_index_or, slice_set, replicate, arith, ap, refl, sym, ◌∙◌, inl, inr}
+use Rattle.std.proofs.Common.{◌≡◌, ℕ, ◌<◌, suc, Bool, true, false, List, length, slice_index_or, slice_set, replicate, arith, ap, sym, ◌∙◌, inl, inr}
 use Rattle.std.specs.Prelude.{◌||◌}
 use Rattle.counting.proofs.Booleans.{cases_eq, cases_lt, eq-eqb, ne_eqb, or_false, or_true}
 use Rattle.std.proofs.lemmas.List.{get_or-set_other, get_or-replicate, length-replicate}

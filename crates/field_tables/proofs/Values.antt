@@ -42,6 +42,27 @@ pub row_push : (f : ℕ → ℕ → ℕ) (q : ℕ) (t : List ℕ) (x y v : ℕ) 
 row_push f q t x y v h size below e =
     values_push (by_rows f q) t v h (e ∙ sym (ap (by_rows f q) size ∙ ap₂ f (row_of q x y below) (mod-mul-add x q y below)))
 
+-- a table up to row x, of which y entries stand
+abbrev pub IsBegun : (ℕ → ℕ → ℕ) → ℕ → ℕ → ℕ → List ℕ → Type 0
+IsBegun f q x y t = record { size : length t ≡ x * q + y; entries : IsValues (by_rows f q) t }
+
+pub begun_push : (f : ℕ → ℕ → ℕ) (q x y v : ℕ) (t new : List ℕ) → IsBegun f q x y t → y < q → v ≡ f x y → new ≡ t ++ (v ∷ []) → IsBegun f q x (y + 1) new
+begun_push f q x y v t new begun below value pushed = record {
+  size = omega (arith, ap length pushed, length-append t (v ∷ []), begun.size);
+  entries = subst (IsValues (by_rows f q)) (sym pushed) (row_push f q t x y v begun.entries begun.size below value);
+}
+
+-- an entry e that was read of a table, whose order has the names q and v
+module _ (op : ℕ → ℕ → ℕ → ℕ) (q v x y e : ℕ) (items t : List ℕ) (same : q ≡ v) (hx : x < v) (hy : y < v)
+    (table : IsTable (op q) q items) (deref : t ≡ items) (read : e ≡ slice_index t (x * q + y)) where
+  pub read_is : e ≡ op v x y
+  read_is =
+      read ∙ ap (λ t. slice_index t (x * q + y)) deref
+      ∙ table_at (op q) q items table x y (subst (λ n. x < n) (sym same) hx) (subst (λ n. y < n) (sym same) hy) ∙ ap (λ n. op n x y) same
+
+  pub read_below : op q x y < q → e < v
+  read_below below = subst (λ n. n < v) (sym read_is) (subst (λ n. op n x y < n) same below)
+
 -- the next solution, which a number below low has no need of
 pub solved_push : (f : ℕ → ℕ → ℕ) (target low q : ℕ) (t : List ℕ) (v : ℕ) →
     ((x : ℕ) → low ≤ x → x < length t → (slice_index t x < q) × (f x (slice_index t x) ≡ target)) →

@@ -1,7 +1,7 @@
-use Rattle.std.proofs.Common.{ap, arith, length, length-append, ℕ}
+use Rattle.std.proofs.Common.{arith}
 use Rattle.design_base.specs.Fields.{field_sum}
 use Rattle.field_tables.proofs.Fill.{small}
-use Rattle.field_tables.proofs.Values.{row_push}
+use Rattle.field_tables.proofs.Values.{begun_push}
 use Rattle.field_tables.proofs.ring.sum_table.Goals as goal
 
 pub overflow_cast-sum : goal.overflow_cast-sum
@@ -9,9 +9,5 @@ overflow_cast-sum c = omega (arith, small c.args.polynomial.now c.requires)
 
 pub loop-y-preserved : goal.loop-y-preserved
 loop-y-preserved c =
-    let q = c.args.polynomial.now.order in
-    let next = row_push (field_sum q) q c.loop-y.sums.items c.loop-x.x c.loop-y.y c.next_sum-sum.result c.loop-y.invariant.entries c.loop-y.invariant.size c.loop-y-test.true c.next_sum-sum.ensures.sum in
-    record {
-      size = omega (arith, ap length c.in_ok-push.ensures.items, length-append {A = ℕ});
-      entries = rw c.in_ok-push.ensures.items next;
-    }
+    begun_push (field_sum c.args.polynomial.now.order) c.args.polynomial.now.order c.loop-x.x c.loop-y.y c.next_sum-sum.result c.loop-y.sums.items _
+    (record { size = c.loop-y.invariant.size; entries = c.loop-y.invariant.entries }) c.loop-y-test.true c.next_sum-sum.ensures.sum c.in_ok-push.ensures.items
