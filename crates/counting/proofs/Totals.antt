@@ -2,9 +2,11 @@
 use Rattle.std.proofs.Common.{Bool, [], ap, arith, false, inl, inr, refl, suc, sym, true, zero, ℕ, ◌*◌, ◌+◌, ◌<◌, ◌==◌, ◌∙◌, ◌∷◌, ◌≡◌, ◌≤◌}
 use Rattle.counting.proofs.Booleans.{cases_eq, cases_lt, eq-eqb, eqb-true}
 use Rattle.std.specs.List.{sum_by}
+use Rattle.std.specs.Prelude.{filter, length}
 use Rattle.counting.proofs.ButOne.{sum_below-plus}
 use Rattle.counting.proofs.Counts.{count_none, count_one, one-false, one-most, one-true, sum_below-at, sum_below-const, sum_below-le, sum_below-mul, sum_below-same, sum_below-turn}
-use Rattle.counting.proofs.Lists.{sum_by-join_below, sum_by-single}
+use Rattle.counting.proofs.Lists.{sum_by-join_below, sum_by-length, sum_by-single}
+use Rattle.counting.proofs.OnePlace.{filter_sum}
 use Rattle.counting.specs.Sums.{list_below, one, sum_below}
 
 pub sum_by-list_below : {X : Type 0} (f : X → ℕ) (n : ℕ) (g : ℕ → X) → sum_by f (list_below n g) ≡ sum_below n (λ i. f (g i))
@@ -87,17 +89,24 @@ count_unique (suc n) p u = elim (cases_lt 0 (one (p n))) [
 pub count_few : (n z : ℕ) → sum_below n (λ y. one (z == y)) ≤ 1
 count_few n z = count_unique n (λ y. z == y) (λ i j l m e f. sym (eqb-true z i e) ∙ eqb-true z j f)
 
+-- the term of z alone
+pub sum_below-pick : (n z : ℕ) (f : ℕ → ℕ) → z < n → sum_below n (λ x. f x * one (z == x)) ≡ f z
+sum_below-pick n z f l =
+    sum_below-at n z (λ x. f x * one (z == x)) l (λ x m ne. ap (λ t. f x * t) (one-false (z == x) (λ e. ne (sym (eqb-true z x e)))) ∙ omega arith)
+    ∙ ap (λ t. f z * t) (one-true (z == z) (eq-eqb z z refl)) ∙ omega arith
+
+-- how many numbers below n pass a test
+pub length_filtered : (test : ℕ → Bool) (n : ℕ) → length (filter test (list_below n (λ i. i))) ≡ sum_below n (λ i. one (test i))
+length_filtered test n =
+    sym (sum_by-length (filter test (list_below n (λ i. i)))) ∙ filter_sum test (λ i. 1) (list_below n (λ i. i))
+    ∙ sum_by-list_below (λ i. one (test i) * 1) n (λ i. i) ∙ sum_below-same n _ _ (λ i l. omega arith)
+
 -- a sum over renamed numbers, where each number is the name of exactly one
 pub sum_below-renamed : (n m : ℕ) (s : ℕ → ℕ) (f : ℕ → ℕ) → ((i : ℕ) → i < n → s i < m) → ((k : ℕ) → k < m → sum_below n (λ i. one (s i == k)) ≡ 1) → sum_below n (λ i. f (s i)) ≡ sum_below m f
 sum_below-renamed n m s f small once =
-    sum_below-same n (λ i. f (s i)) (λ i. sum_below m (λ k. f k * one (s i == k))) (λ i l. sym (alone i (small i l)))
+    sum_below-same n (λ i. f (s i)) (λ i. sum_below m (λ k. f k * one (s i == k))) (λ i l. sym (sum_below-pick m (s i) f (small i l)))
     ∙ sum_below-turn n m (λ i k. f k * one (s i == k))
     ∙ sum_below-same m (λ k. sum_below n (λ i. f k * one (s i == k))) f (λ k l. sum_below-mul n (f k) (λ i. one (s i == k)) ∙ ap (λ t. f k * t) (once k l) ∙ omega arith)
-  where
-    alone : (i : ℕ) → s i < m → sum_below m (λ k. f k * one (s i == k)) ≡ f (s i)
-    alone i l =
-        sum_below-at m (s i) (λ k. f k * one (s i == k)) l (λ k h ne. ap (λ t. f k * t) (one-false (s i == k) (λ e. ne (sym (eqb-true (s i) k e)))) ∙ omega arith)
-        ∙ ap (λ t. f (s i) * t) (one-true (s i == s i) (eq-eqb (s i) (s i) refl)) ∙ omega arith
 
 -- the same, where no two of the numbers have one name
 pub sum_below-moved : (n : ℕ) (s : ℕ → ℕ) (f : ℕ → ℕ) → ((i : ℕ) → i < n → s i < n) → ((i j : ℕ) → i < n → j < n → s i ≡ s j → i ≡ j) → sum_below n (λ i. f (s i)) ≡ sum_below n f

@@ -1,15 +1,17 @@
 -- The points of a block, counted.
-use Rattle.std.proofs.Common.{Bool, List, [], ap, arith, cond, false, get_or, inl, inr, length, refl, subst, sym, true, ℕ, ◌&&◌, ◌+◌, ◌<◌, ◌==◌, ◌||◌, ◌∙◌, ◌∷◌, ◌≡◌, ◌≢◌}
-use Rattle.counting.proofs.Booleans.{and_from, cond_both, eq-eqb, eqb-false, eqb-true, false≢true, ne_eqb, or_cases, or_parts}
+use Rattle.std.proofs.Common.{Bool, List, [], ap, arith, cond, false, get_or, inl, inr, length, refl, subst, sym, true, ℕ, ◌&&◌, ◌*◌, ◌+◌, ◌<◌, ◌==◌, ◌||◌, ◌∙◌, ◌∷◌, ◌≡◌, ◌≢◌}
+use Rattle.counting.proofs.Booleans.{and_from, bool_same, cond_both, eq-eqb, eqb-false, eqb-true, false≢true, ne_eqb, or_cases, or_parts}
 use Rattle.std.proofs.lemmas.List.Folds.{list_any_at}
 use Rattle.std.proofs.lemmas.List.Sums.{get_or-le-sum_by, sum_by-cons}
 use Rattle.std.specs.List.{AllByRecursion, sum_by}
 use Rattle.std.specs.Prelude.{filter}
-use Rattle.counting.proofs.Counts.{one-false, one-true}
-use Rattle.counting.proofs.Lists.{all_filter}
-use Rattle.counting.specs.Sums.{one}
+use Rattle.counting.proofs.Counts.{one-false, one-true, sum_below-same}
+use Rattle.counting.proofs.Lists.{all_filter, each-weaker, sum_by-mul, sum_by-same, sum_by-sum_below}
+use Rattle.counting.proofs.Ranges.{each_below}
+use Rattle.counting.proofs.Totals.{sum_below-pick}
+use Rattle.counting.specs.Sums.{list_below, one, sum_below}
 use Rattle.design_base.proofs.Canonical.{Differs}
-use Rattle.design_base.proofs.Cover.{cover-is, holds-cons, holds-none}
+use Rattle.design_base.proofs.Cover.{cover-is, holds-cons, holds-none, holds_below-from}
 use Rattle.design_base.specs.Blocks.{cover, holds}
 
 -- what holds of each point of a block holds of x, where the block holds x
@@ -55,3 +57,19 @@ differs_filter q (x ∷ b) d = cond_both (q x) _ _ Differs (λ e. (all_filter (�
 pub misses : (p : ℕ) (b : List ℕ) → holds p b ≡ false → AllByRecursion (λ z. z < p + 1) b → AllByRecursion (λ z. z < p) b
 misses p [] h s = tt
 misses p (z ∷ b) h s = let f = or_parts _ _ (sym (holds-cons p z b) ∙ h) in (omega (arith, s.0, eqb-false z p f.0), misses p b f.1 s.1)
+
+-- a filtered range holds what passes
+pub holds_filter : (test : ℕ → Bool) (n x : ℕ) → holds x (filter test (list_below n (λ i. i))) ≡ true → (x < n) × (test x ≡ true)
+holds_filter test n x h = each_at (λ z. (z < n) × (test z ≡ true)) x (filter test (list_below n (λ i. i)))
+    (all_filter (λ z. z < n) (λ z. (z < n) × (test z ≡ true)) test (λ z l e. (l, e)) (list_below n (λ i. i)) (each_below (λ z. z < n) n (λ i. i) (λ i l. l))) h
+
+pub holds_filtered : (test : ℕ → Bool) (n x : ℕ) → x < n → holds x (filter test (list_below n (λ i. i))) ≡ test x
+holds_filtered test n x l = bool_same _ _ (λ h. (holds_filter test n x h).1)
+    (λ e. holds-filter test x (list_below n (λ i. i)) e ∙ holds_below-from n x (λ i. i) x l refl)
+
+-- a sum over the points of a set, as one over all points
+pub sum_set : (v : ℕ) (f : ℕ → ℕ) (row : List ℕ) → Differs row → AllByRecursion (λ x. x < v) row → sum_by f row ≡ sum_below v (λ x. f x * one (holds x row))
+sum_set v f row d below =
+    sum_by-same f (λ z. sum_below v (λ x. f x * one (z == x))) row (each-weaker (λ z. z < v) _ (λ z l. sym (sum_below-pick v z f l)) row below)
+    ∙ sum_by-sum_below (λ x z. f x * one (z == x)) v row
+    ∙ sum_below-same v _ (λ x. f x * one (holds x row)) (λ x l. sum_by-mul (f x) (λ z. one (z == x)) row ∙ ap (λ n. f x * n) (sym (one-holds x row d)))

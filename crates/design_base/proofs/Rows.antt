@@ -23,17 +23,18 @@ holds-row_block k n f c x small l m = bool_same _ _
     eq-eqb (f c) x (ap f (sym s.0) ∙ s.1))
     (λ h. holds_below-from k (place n c x) (λ j. place n j (f j)) c l (ap (place n c) (eqb-true (f c) x h)))
 
-module _ (k n : ℕ) (R : List (List ℕ)) (rows : All (IsRow k n) R) where
-  small : (r : List ℕ) → IsRow k n r → (j : ℕ) → j < k → get_or r j 0 < n
-  small r s j l = s.below j 0 (omega (arith, s.size))
+-- the symbol in a column of a row
+pub symbol_below : (k n : ℕ) (r : List ℕ) → IsRow k n r → (j : ℕ) → j < k → get_or r j 0 < n
+symbol_below k n r row j l = row.below j 0 (omega (arith, row.size))
 
+module _ (k n : ℕ) (R : List (List ℕ)) (rows : All (IsRow k n) R) where
   -- the blocks of rows cover two places of different columns as often as the rows agree with them
   pub cover-blocks_of_rows : (c x d y : ℕ) → c < k → d < k → x < n → y < n → cover (blocks_of_rows k n R) (place n c x) (place n d y) ≡ agree R c d x y
   unfolding blocks_of_rows agree one
   cover-blocks_of_rows c x d y a b l m = cover-is (blocks_of_rows k n R) (place n c x) (place n d y)
       ∙ sum_by-map (λ b. one (holds (place n c x) b && holds (place n d y) b)) (λ r. row_block k n (λ j. get_or r j 0)) R
       ∙ sum_by-agree (IsRow k n) (λ r. one (holds (place n c x) (row_block k n (λ j. get_or r j 0)) && holds (place n d y) (row_block k n (λ j. get_or r j 0)))) (λ r. one ((get_or r c 0 == x) && (get_or r d 0 == y))) R rows
-      (λ r s. rw (holds-row_block k n (λ j. get_or r j 0) c x (small r s) a l, holds-row_block k n (λ j. get_or r j 0) d y (small r s) b m))
+      (λ r s. rw (holds-row_block k n (λ j. get_or r j 0) c x (symbol_below k n r s) a l, holds-row_block k n (λ j. get_or r j 0) d y (symbol_below k n r s) b m))
 
 pub agree-is : (R : List (List ℕ)) (c d x y : ℕ) → agree R c d x y ≡ sum_by (λ r. one ((get_or r c 0 == x) && (get_or r d 0 == y))) R
 unfolding agree one
@@ -60,7 +61,7 @@ set_of_row k n f small = record {
 pub td_from_oa : (k n : ℕ) (R : List (List ℕ)) → 0 < n → IsOa R k n → IsLoose (blocks_of_rows k n R) (n * k) (λ s. s ≡ k) (across n)
 unfolding blocks_of_rows
 td_from_oa k n R pos oa = record {
-  blocks = All-map_of (IsRow k n) (IsPointSet (n * k) (λ s. s ≡ k)) (λ r. row_block k n (λ j. get_or r j 0)) R oa.rows (λ r s. set_of_row k n (λ j. get_or r j 0) (small k n R oa.rows r s));
+  blocks = All-map_of (IsRow k n) (IsPointSet (n * k) (λ s. s ≡ k)) (λ r. row_block k n (λ j. get_or r j 0)) R oa.rows (λ r s. set_of_row k n (λ j. get_or r j 0) (symbol_below k n r s));
   pairs = λ p q l m. by_places (λ p q. cover (blocks_of_rows k n R) p q ≡ across n p q) n k pos
       (λ c d x y w b l m. cover-blocks_of_rows k n R oa.rows c x d y (omega arith) b l m ∙ oa.pairs c d x y w b l m ∙ sym (across-apart n c x d y l m (omega arith)))
       (λ c x y a l m. cover-blocks_of_rows k n R oa.rows c x c y a a (omega arith) m ∙ agree-apart R c x y (omega arith) ∙ sym (across-inside n c x y (omega arith) m))
@@ -73,7 +74,7 @@ unfolding agree one
 agree-all k n R rows i j l m =
     sum_below-same n (λ a. sum_below n (λ b. agree R i j a b)) (λ a. sum_by (λ r. sum_below n (λ b. one (test r a b))) R) (λ a h. sym (sum_by-sum_below (λ b r. one (test r a b)) n R))
     ∙ sym (sum_by-sum_below (λ a r. sum_below n (λ b. one (test r a b))) n R)
-    ∙ sum_by-agree (IsRow k n) _ (λ r. 1) R rows (λ r s. grid_one n n (get_or r i 0) (get_or r j 0) (test r) (small k n R rows r s i l) (small k n R rows r s j m)
+    ∙ sum_by-agree (IsRow k n) _ (λ r. 1) R rows (λ r s. grid_one n n (get_or r i 0) (get_or r j 0) (test r) (symbol_below k n r s i l) (symbol_below k n r s j m)
     (both_equal-from (get_or r i 0) (get_or r j 0) _ _ refl refl)
     (λ x y a b t. let h = both_equal (get_or r i 0) (get_or r j 0) x y t in (sym h.0, sym h.1)))
     ∙ sum_by-length R

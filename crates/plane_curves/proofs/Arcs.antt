@@ -2,19 +2,18 @@
 use Rattle.std.proofs.Common.{Bool, List, ap, ap₂, arith, cond, get_or, inl, inr, length, refl, suc, sym, true, ℕ, ◌%◌, ◌&&◌, ◌*◌, ◌+◌, ◌-◌, ◌/◌, ◌<◌, ◌==◌, ◌^◌, ◌∙◌, ◌≡◌, ◌≢◌, ◌≤◌}
 use Rattle.std.proofs.Math.Nat.{add-mul-div_left, add-mul-mod_self_left, div-eq_of_lt, mod-eq_of_lt, mod-lt, pow-suc, pow-zero}
 use Rattle.counting.proofs.Booleans.{bool_same, both, cases_Bool, eq-eqb, eqb-true, false≢true, ltb-true}
-use Rattle.std.specs.List.{AllByRecursion, sum_by}
+use Rattle.std.specs.List.{sum_by}
 use Rattle.std.specs.Prelude.{nat_lt}
 use Rattle.counting.proofs.Counts.{one-false, one-true, sum_below-at, sum_below-same, sum_below-turn}
-use Rattle.counting.proofs.Lists.{each-weaker, one-and, sum_by-mul, sum_by-same, sum_by-sum_below}
+use Rattle.counting.proofs.Lists.{one-and}
 use Rattle.counting.proofs.OnePlace.{filter_sum}
 use Rattle.counting.specs.Sums.{list_below, one, sum_below}
-use Rattle.design_base.proofs.Canonical.{Differs}
-use Rattle.design_base.proofs.Points.{one-holds}
+use Rattle.design_base.proofs.Points.{sum_set}
 use Rattle.design_base.specs.Blocks.{IsBibd, cover, holds}
 use Rattle.design_base.specs.Canonical.{canonical}
 use Rattle.design_base.specs.Digits.{digits}
 use Rattle.design_base.specs.Rings.{IsCommutativeRing, IsField}
-use Rattle.counting.proofs.Totals.{sum_below-grid, sum_by-list_below}
+use Rattle.counting.proofs.Totals.{length_filtered, sum_below-grid, sum_by-list_below}
 use Rattle.field_tables.proofs.AnyField.{add_cancel, difference, mul-zero}
 use Rattle.field_tables.proofs.Numbers.{number-digits}
 use Rattle.spaces.proofs.Leads.{points_apart}
@@ -26,19 +25,7 @@ use Rattle.spaces.specs.Vectors.{combination, multiple, vector_sum}
 use Rattle.plane_curves.specs.Curves.{is_on_arc, quadratic}
 use Rattle.plane_curves.specs.Traces.{points_on, trace}
 use Rattle.plane_curves.proofs.Forms.{line_count, point_total}
-use Rattle.plane_curves.proofs.Sections.{curve_design, in_plane, length_filtered, plane_holds, point_at, sum_places, vectors}
-
--- ---- sums over the points of a set, and over the points of a geometry
-one_value : (v z : ℕ) (f : ℕ → ℕ) → z < v → sum_below v (λ x. f x * one (z == x)) ≡ f z
-one_value v z f l =
-    sum_below-at v z (λ x. f x * one (z == x)) l (λ i m ne. ap (λ n. f i * n) (one-false (z == i) (λ t. ne (sym (eqb-true z i t)))) ∙ omega arith)
-    ∙ ap (λ n. f z * n) (one-true (z == z) (eq-eqb z z refl)) ∙ omega arith
-
-pub sum_set : (v : ℕ) (f : ℕ → ℕ) (row : List ℕ) → Differs row → AllByRecursion (λ x. x < v) row → sum_by f row ≡ sum_below v (λ x. f x * one (holds x row))
-sum_set v f row d below =
-    sum_by-same f (λ z. sum_below v (λ x. f x * one (z == x))) row (each-weaker (λ z. z < v) _ (λ z l. sym (one_value v z f l)) row below)
-    ∙ sum_by-sum_below (λ x z. f x * one (z == x)) v row
-    ∙ sum_below-same v _ (λ x. f x * one (holds x row)) (λ x l. sum_by-mul (f x) (λ z. one (z == x)) row ∙ ap (λ n. f x * n) (sym (one-holds x row d)))
+use Rattle.plane_curves.proofs.Sections.{curve_design, in_plane, plane_holds, point_at, sum_places, vectors}
 
 -- a test that only points pass
 pub over_vectors : (q n : ℕ) (test : ℕ → Bool) → ((z : ℕ) → test z ≡ true → lead q n z ≡ 1) → sum_below (length (points q n)) (λ u. one (test (get_or (points q n) u 0))) ≡ sum_below (q ^ n) (λ z. one (test z))

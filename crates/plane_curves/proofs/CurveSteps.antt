@@ -10,8 +10,7 @@ use Rattle.counting.specs.Search.{upward}
 use Rattle.counting.specs.Sums.{list_below}
 use Rattle.design_base.specs.Fields.{has_field}
 use Rattle.design_base.specs.declared.limits.TheConstants.{POINTS_MAX}
-use Rattle.field_tables.proofs.Listed.{listed_small}
-use Rattle.spaces.proofs.Bounds.{order_above}
+use Rattle.field_tables.proofs.Listed.{listed_small, order_above}
 use Rattle.spaces.proofs.PointSteps.{points_below-left, points_below-none, points_below-taken}
 use Rattle.spaces.specs.Points.{lead, points_below}
 use Rattle.plane_curves.proofs.Arcs.{lead_first, on_arc_first}

@@ -5,31 +5,19 @@ use Rattle.counting.proofs.Booleans.{bool_same, cases_Bool, cases_eq, cases_lt, 
 use Rattle.std.specs.Prelude.{nat_lt}
 use Rattle.counting.proofs.Counts.{count_none, count_one, one-false, one-true, sum_below-add, sum_below-const, sum_below-le, sum_below-same, sum_below-turn, sum_below-zero}
 use Rattle.counting.specs.Sums.{one, sum_below}
-use Rattle.design_base.specs.Rings.{IsCommutativeRing, IsField}
-use Rattle.field_tables.proofs.AnyField.{distribute_right, divide, divide_once, mul-zero, mul_cancel, no_zero_divisors, products_left, sums_left}
+use Rattle.design_base.specs.Rings.{IsField}
+use Rattle.field_tables.proofs.AnyField.{field_laws}
 use Rattle.spaces.proofs.LinearSpaces.{least_below}
 use Rattle.plane_curves.specs.Curves.{quadratic}
 use Rattle.counting.proofs.ButOne.{sum_below-plus}
 use Rattle.counting.proofs.Totals.{count_few, each_most, sum_below-moved, sum_below-single}
 
 module _ (q : ℕ) (add mul : ℕ → ℕ → ℕ) (field : IsField q add mul) (two : add 1 1 ≡ 0) where
-  abbrev r : IsCommutativeRing q add mul
-  r = field.ring
-
-  adds_left : (x y z : ℕ) → add x (add y z) ≡ add y (add x z)
-  adds_left = sums_left q add mul r
-
-  muls_left : (x y z : ℕ) → mul x (mul y z) ≡ mul y (mul x z)
-  muls_left = products_left q add mul r
-
-  adds_right : (x y z : ℕ) → mul (add x y) z ≡ add (mul x z) (mul y z)
-  adds_right = distribute_right q add mul r
-
-  positive : 0 < q
-  positive = omega (arith, r.one_below)
+  open field use {ring as r}
+  open field_laws q add mul field use {distribute_right, divide, divide_once, mul-zero, mul_cancel, no_zero_divisors, products_left, sums_left, zero_below}
 
   double : (x : ℕ) → x < q → add x x ≡ 0
-  double x l = ap₂ add (sym (r.one_neutral x l)) (sym (r.one_neutral x l)) ∙ sym (r.products_distribute x 1 1) ∙ ap (mul x) two ∙ mul-zero q add mul r x
+  double x l = ap₂ add (sym (r.one_neutral x l)) (sym (r.one_neutral x l)) ∙ sym (r.products_distribute x 1 1) ∙ ap (mul x) two ∙ mul-zero x
 
   -- what is added twice is gone
   again : (x y : ℕ) → x < q → y < q → add x (add x y) ≡ y
@@ -40,12 +28,12 @@ module _ (q : ℕ) (add mul : ℕ → ℕ → ℕ) (field : IsField q add mul) (
 
   square_sum : (x y : ℕ) → mul (add x y) (add x y) ≡ add (mul x x) (mul y y)
   square_sum x y =
-      r.products_distribute (add x y) x y ∙ ap₂ add (adds_right x y x) (adds_right x y y)
+      r.products_distribute (add x y) x y ∙ ap₂ add (distribute_right x y x) (distribute_right x y y)
       ∙ r.sums_associate (mul x x) (mul y x) (add (mul x y) (mul y y))
       ∙ ap (add (mul x x)) (ap (λ t. add t (add (mul x y) (mul y y))) (r.products_commute y x) ∙ again (mul x y) (mul y y) (r.products_below x y) (r.products_below y y))
 
   mixed : (a b t x y : ℕ) → mul (add a (mul t x)) (add b (mul t y)) ≡ add (mul a b) (add (mul t (add (mul a y) (mul b x))) (mul (mul t t) (mul x y)))
-  mixed a b t x y = simp (r.products_distribute, adds_right, r.products_associate, r.products_commute, muls_left, r.sums_associate, r.sums_commute, adds_left)
+  mixed a b t x y = simp (r.products_distribute, distribute_right, r.products_associate, r.products_commute, products_left, r.sums_associate, r.sums_commute, sums_left)
 
   module _ (c : ℕ) where
     abbrev form : ℕ → ℕ → ℕ
@@ -67,7 +55,7 @@ module _ (q : ℕ) (add mul : ℕ → ℕ → ℕ) (field : IsField q add mul) (
     unfolding quadratic slope bend
     along a b x y t =
         ap₂ add (square_sum a (mul t x)) (ap₂ add (mixed a b t x y) (ap (mul c) (square_sum b (mul t y))))
-        ∙ simp (r.products_distribute, adds_right, r.products_associate, r.products_commute, muls_left, r.sums_associate, r.sums_commute, adds_left)
+        ∙ simp (r.products_distribute, distribute_right, r.products_associate, r.products_commute, products_left, r.sums_associate, r.sums_commute, sums_left)
 
     bend_below : (s d t : ℕ) → bend s d t < q
     unfolding bend
@@ -77,7 +65,7 @@ module _ (q : ℕ) (add mul : ℕ → ℕ → ℕ) (field : IsField q add mul) (
     unfolding bend
     bend-add s d t u =
         ap (λ w. add (mul (add t u) s) (mul w d)) (square_sum t u)
-        ∙ simp (r.products_distribute, adds_right, r.products_associate, r.products_commute, muls_left, r.sums_associate, r.sums_commute, adds_left)
+        ∙ simp (r.products_distribute, distribute_right, r.products_associate, r.products_commute, products_left, r.sums_associate, r.sums_commute, sums_left)
 
     bend-factor : (s d t : ℕ) → bend s d t ≡ mul t (add s (mul t d))
     unfolding bend
@@ -86,9 +74,6 @@ module _ (q : ℕ) (add mul : ℕ → ℕ → ℕ) (field : IsField q add mul) (
     -- two values are one where the sum of their arguments has the value 0
     bend_same : (s d t u : ℕ) → bend s d t ≡ bend s d u → bend s d (add t u) ≡ 0
     bend_same s d t u e = bend-add s d t u ∙ ap (λ w. add w (bend s d u)) e ∙ double (bend s d u) (bend_below s d u)
-
-    zero_or : (x y : ℕ) → x < q → y < q → mul x y ≡ 0 → (x ≡ 0) ⊎ (y ≡ 0)
-    zero_or = no_zero_divisors q add mul r field.inverses
 
     module _ (M : ℕ) (small : M ≤ q) (closed : (x y : ℕ) → x < M → y < M → add x y < M) where
       among : ℕ → ℕ
@@ -125,7 +110,7 @@ module _ (q : ℕ) (add mul : ℕ → ℕ → ℕ) (field : IsField q add mul) (
 
       module _ (s d : ℕ) (hs : s < q) (hd : d < q) (some : 0 < d) where
         root : (t : ℕ) → t < q → bend s d t ≡ 0 → (t ≡ 0) ⊎ (mul d t ≡ s)
-        root t l e = elim (zero_or t (add s (mul t d)) l (r.sums_below s (mul t d)) (sym (bend-factor s d t) ∙ e)) [
+        root t l e = elim (no_zero_divisors t (add s (mul t d)) l (r.sums_below s (mul t d)) (sym (bend-factor s d t) ∙ e)) [
           | inl none ↦ inl none
           | inr sum ↦ inr (r.products_commute d t ∙ sym (same_from_zero s (mul t d) hs (r.products_below t d) sum))
         ]
@@ -138,19 +123,19 @@ module _ (q : ℕ) (add mul : ℕ → ℕ → ℕ) (field : IsField q add mul) (
             only : (t : ℕ) → t < q → bend s d t ≡ 0 → t ≡ 0
             only t l e = elim (root t l e) [
               | inl z ↦ z
-              | inr z ↦ elim (zero_or d t hd l (z ∙ none)) [ inl f ↦ absurd (omega arith) | inr f ↦ f ]
+              | inr z ↦ elim (no_zero_divisors d t hd l (z ∙ none)) [ inl f ↦ absurd (omega arith) | inr f ↦ f ]
             ]
 
         -- a is no value of the additive part
         module _ (a : ℕ) (ha : a < M) (apart : (t : ℕ) → t < q → bend s d t ≢ a) where
           -- the other argument with the value 0
           other : (k : ℕ) × (k < q) × (mul d k ≡ s)
-          other = divide q add mul r field.inverses d s some hd hs
+          other = divide d s some hd hs
 
           in_fibre : (t u : ℕ) → t < q → u < q → bend s d t ≡ bend s d u → (u ≡ t) ⊎ (add u other.0 ≡ t)
           in_fibre t u l m e = elim (root (add t u) (r.sums_below t u) (bend_same s d t u e)) [
             | inl z ↦ inl (sym (same_from_zero t u l m z))
-            | inr z ↦ inr (ap (add u) (sym (divide_once q add mul r field.inverses d s (add t u) other.0 some hd (r.sums_below t u) other.1 z other.2) ∙ r.sums_commute t u) ∙ again u t m l)
+            | inr z ↦ inr (ap (add u) (sym (divide_once d s (add t u) other.0 some hd (r.sums_below t u) other.1 z other.2) ∙ r.sums_commute t u) ∙ again u t m l)
           ]
 
           fibre : (y : ℕ) → sum_below q (λ t. one (bend s d t == y)) ≤ 2
@@ -238,24 +223,24 @@ module _ (q : ℕ) (add mul : ℕ → ℕ → ℕ) (field : IsField q add mul) (
 
         times_square : (y u : ℕ) → form (mul y u) y ≡ mul (mul y y) (curved u)
         unfolding quadratic
-        times_square y u = simp (r.products_distribute, adds_right, r.products_associate, r.products_commute, muls_left, r.sums_associate, r.sums_commute, adds_left)
+        times_square y u = simp (r.products_distribute, distribute_right, r.products_associate, r.products_commute, products_left, r.sums_associate, r.sums_commute, sums_left)
 
         form_first : (x : ℕ) → form x 0 ≡ mul x x
         unfolding quadratic
         form_first x =
-            ap₂ (λ m n. add (mul x x) (add m (mul c n))) (mul-zero q add mul r x) (mul-zero q add mul r 0)
-            ∙ ap (add (mul x x)) (ap (add 0) (mul-zero q add mul r c) ∙ r.zero_neutral 0 positive) ∙ r.zero_neutral (mul x x) (r.products_below x x)
+            ap₂ (λ m n. add (mul x x) (add m (mul c n))) (mul-zero x) (mul-zero 0)
+            ∙ ap (add (mul x x)) (ap (add 0) (mul-zero c) ∙ r.zero_neutral 0 zero_below) ∙ r.zero_neutral (mul x x) (r.products_below x x)
 
         square_zero : (x : ℕ) → x < q → mul x x ≡ 0 → x ≡ 0
-        square_zero x l e = elim (zero_or x x l l e) [ inl f ↦ f | inr f ↦ f ]
+        square_zero x l e = elim (no_zero_divisors x x l l e) [ inl f ↦ f | inr f ↦ f ]
 
         -- the form has the value 0 at (0, 0) alone
         anisotropic : (x y : ℕ) → x < q → y < q → form x y ≡ 0 → (x ≡ 0) × (y ≡ 0)
         anisotropic x y lx ly e = elim (cases_eq y 0) [
           | inl z ↦ (square_zero x lx (sym (form_first x) ∙ ap (form x) (sym z) ∙ e), z)
           | inr ne ↦
-              let u = divide q add mul r field.inverses y x (pos_of_ne-zero ne) ly lx in
-              elim (zero_or (mul y y) (curved u.0) (r.products_below y y) (r.sums_below (mul u.0 u.0) (add u.0 c)) (sym (times_square y u.0) ∙ ap (λ t. form t y) u.2 ∙ e)) [
+              let u = divide y x (pos_of_ne-zero ne) ly lx in
+              elim (no_zero_divisors (mul y y) (curved u.0) (r.products_below y y) (r.sums_below (mul u.0 u.0) (add u.0 c)) (sym (times_square y u.0) ∙ ap (λ t. form t y) u.2 ∙ e)) [
                 | inl f ↦ absurd (ne (square_zero y ly f))
                 | inr f ↦ absurd (no_root u.0 u.1 f)
               ]
@@ -294,12 +279,12 @@ module _ (q : ℕ) (add mul : ℕ → ℕ → ℕ) (field : IsField q add mul) (
           scaled_squares : (k : ℕ) → 0 < k → k < q → sum_below q (λ t. among (mul (mul t t) k)) ≡ M
           unfolding bend
           scaled_squares k pos l =
-              sum_below-same q _ (λ t. among (bend 0 k t)) (λ t m. ap among (sym (ap (λ w. add w (mul (mul t t) k)) (mul-zero q add mul r t) ∙ r.sums_commute 0 (mul (mul t t) k) ∙ r.zero_neutral (mul (mul t t) k) (r.products_below (mul t t) k))))
-              ∙ squares 0 k positive l pos refl
+              sum_below-same q _ (λ t. among (bend 0 k t)) (λ t m. ap among (sym (ap (λ w. add w (mul (mul t t) k)) (mul-zero t) ∙ r.sums_commute 0 (mul (mul t t) k) ∙ r.zero_neutral (mul (mul t t) k) (r.products_below (mul t t) k))))
+              ∙ squares 0 k zero_below l pos refl
 
           -- without the argument 0
           but_zero : (f : ℕ → ℕ) → sum_below q f ≡ f 0 + sum_below (q - 1) (λ y. f (1 + y))
-          but_zero f = ap (λ n. sum_below n f) (let e : q ≡ 1 + (q - 1) = omega (arith, positive) in e) ∙ sum_below-plus 1 (q - 1) f ∙ ap (λ t. t + sum_below (q - 1) (λ y. f (1 + y))) (sum_below-single f)
+          but_zero f = ap (λ n. sum_below n f) (let e : q ≡ 1 + (q - 1) = omega (arith, zero_below) in e) ∙ sum_below-plus 1 (q - 1) f ∙ ap (λ t. t + sum_below (q - 1) (λ y. f (1 + y))) (sum_below-single f)
 
           among_zero : among 0 ≡ 1
           unfolding among
@@ -310,7 +295,7 @@ module _ (q : ℕ) (add mul : ℕ → ℕ → ℕ) (field : IsField q add mul) (
             arith,
             but_zero (λ y. among (mul (mul y y) k)),
             scaled_squares k pos l,
-            ap among (ap (λ w. mul w k) (mul-zero q add mul r 0) ∙ r.products_commute 0 k ∙ mul-zero q add mul r k) ∙ among_zero,
+            ap among (ap (λ w. mul w k) (mul-zero 0) ∙ r.products_commute 0 k ∙ mul-zero k) ∙ among_zero,
           )
 
           first_row : sum_below q (λ x. among (form x 0)) ≡ M
@@ -318,7 +303,7 @@ module _ (q : ℕ) (add mul : ℕ → ℕ → ℕ) (field : IsField q add mul) (
 
           row : (y : ℕ) → 0 < y → y < q → sum_below q (λ x. among (form x y)) ≡ sum_below q (λ u. among (mul (mul y y) (curved u)))
           row y pos l =
-              sym (sum_below-moved q (mul y) (λ x. among (form x y)) (λ u m. r.products_below y u) (λ u w m n e. mul_cancel q add mul r field.inverses y u w pos l m n e))
+              sym (sum_below-moved q (mul y) (λ x. among (form x y)) (λ u m. r.products_below y u) (λ u w m n e. mul_cancel y u w pos l m n e))
               ∙ sum_below-same q _ _ (λ u m. ap among (times_square y u))
 
           -- how many points there are

@@ -1,11 +1,11 @@
 -- The form x_0 * conj y_0 + x_1 * conj y_1 + x_2 * conj y_2 over a field with a conjugation.
-use Rattle.std.proofs.Common.{ap, ap₂, arith, inl, inr, sym, ℕ, ◌<◌, ◌==◌, ◌∙◌, ◌≡◌, ◌≢◌, ◌⊎◌}
+use Rattle.std.proofs.Common.{ap, ap₂, arith, inl, inr, sym, ℕ, ◌<◌, ◌==◌, ◌∙◌, ◌≡◌, ◌≢◌}
 use Rattle.std.proofs.Math.Nat.{pos_of_ne-zero}
 use Rattle.counting.proofs.Booleans.{cases_eq}
 use Rattle.counting.proofs.Counts.{sum_below-same}
 use Rattle.counting.specs.Sums.{one, sum_below}
-use Rattle.design_base.specs.Rings.{IsCommutativeRing, IsField}
-use Rattle.field_tables.proofs.AnyField.{add_cancel, distribute_right, mul-zero, mul_cancel, no_zero_divisors, products_left, sums_left}
+use Rattle.design_base.specs.Rings.{IsField}
+use Rattle.field_tables.proofs.AnyField.{field_laws}
 use Rattle.counting.proofs.Totals.{sum_below-moved}
 use Rattle.plane_curves.specs.Secants.{IsOver}
 use Rattle.plane_curves.specs.declared.vectors.Vector.{Vector}
@@ -28,42 +28,18 @@ pub record IsConjugation (q : ℕ) (add mul : ℕ → ℕ → ℕ) (conj : ℕ �
   pub twice : (x : ℕ) → x < q → conj (conj x) ≡ x
 
 module _ (q : ℕ) (add mul : ℕ → ℕ → ℕ) (field : IsField q add mul) (conj : ℕ → ℕ) (conjugation : IsConjugation q add mul conj) where
-  abbrev r : IsCommutativeRing q add mul
-  r = field.ring
-
-  adds_left : (x y z : ℕ) → add x (add y z) ≡ add y (add x z)
-  adds_left = sums_left q add mul r
-
-  muls_left : (x y z : ℕ) → mul x (mul y z) ≡ mul y (mul x z)
-  muls_left = products_left q add mul r
-
-  adds_right : (x y z : ℕ) → mul (add x y) z ≡ add (mul x z) (mul y z)
-  adds_right = distribute_right q add mul r
-
-  positive : 0 < q
-  positive = omega (arith, r.one_below)
-
-  zero_or : (x y : ℕ) → x < q → y < q → mul x y ≡ 0 → (x ≡ 0) ⊎ (y ≡ 0)
-  zero_or = no_zero_divisors q add mul r field.inverses
+  open field use {ring as r}
+  open field_laws q add mul field use {add_cancel, distribute_right, mul-zero, mul_cancel, no_zero_divisors, products_left, sums_left, zero-mul, zero_below, zero_sum}
 
   conj_zero : conj 0 ≡ 0
-  conj_zero = add_cancel q add mul r (conj 0) (conj 0) 0 (conjugation.below 0) positive
-      (sym (conjugation.sums 0 0 positive positive) ∙ ap conj (r.zero_neutral 0 positive) ∙ sym (r.zero_neutral (conj 0) (conjugation.below 0)))
+  conj_zero = add_cancel (conj 0) (conj 0) 0 (conjugation.below 0) zero_below
+      (sym (conjugation.sums 0 0 zero_below zero_below) ∙ ap conj (r.zero_neutral 0 zero_below) ∙ sym (r.zero_neutral (conj 0) (conjugation.below 0)))
 
   zero_conj : (x : ℕ) → x < q → conj x ≡ 0 → x ≡ 0
   zero_conj x l e = sym (conjugation.twice x l) ∙ ap conj e ∙ conj_zero
 
   pub norm_zero : (x : ℕ) → x < q → mul x (conj x) ≡ 0 → x ≡ 0
-  norm_zero x l e = elim (zero_or x (conj x) l (conjugation.below x) e) [ inl f ↦ f | inr f ↦ zero_conj x l f ]
-
-  times_zero : (x : ℕ) → mul x 0 ≡ 0
-  times_zero x = mul-zero q add mul r x
-
-  zero_times : (x : ℕ) → mul 0 x ≡ 0
-  zero_times x = r.products_commute 0 x ∙ times_zero x
-
-  plus_zero : add 0 0 ≡ 0
-  plus_zero = r.zero_neutral 0 positive
+  norm_zero x l e = elim (no_zero_divisors x (conj x) l (conjugation.below x) e) [ inl f ↦ f | inr f ↦ zero_conj x l f ]
 
   abbrev Below : Vector → Type 0
   Below x = IsOver q x
@@ -84,7 +60,7 @@ module _ (q : ℕ) (add mul : ℕ → ℕ → ℕ) (field : IsField q add mul) (
 
   form-mix : (m : ℕ) (x : Vector) (n : ℕ) (y z : Vector) → form (mix m x n y) z ≡ add (mul m (form x z)) (mul n (form y z))
   unfolding hermitian mixed
-  form-mix m x n y z = simp (r.products_distribute, adds_right, r.products_associate, r.products_commute, muls_left, r.sums_associate, r.sums_commute, adds_left)
+  form-mix m x n y z = simp (r.products_distribute, distribute_right, r.products_associate, r.products_commute, products_left, r.sums_associate, r.sums_commute, sums_left)
 
   form-turn : (x y : Vector) → Below y → form y x ≡ conj (form x y)
   unfolding hermitian
@@ -97,7 +73,7 @@ module _ (q : ℕ) (add mul : ℕ → ℕ → ℕ) (field : IsField q add mul) (
 
   -- where the form has the value 0 at two vectors and between them, it has it between all their mixes
   none : (m n : ℕ) → add (mul m 0) (mul n 0) ≡ 0
-  none m n = ap₂ add (times_zero m) (times_zero n) ∙ plus_zero
+  none m n = ap₂ add (mul-zero m) (mul-zero n) ∙ zero_sum
 
   turned_zero : (x y : Vector) → Below y → form x y ≡ 0 → form y x ≡ 0
   turned_zero x y l e = form-turn x y l ∙ ap conj e ∙ conj_zero
@@ -113,19 +89,19 @@ module _ (q : ℕ) (add mul : ℕ → ℕ → ℕ) (field : IsField q add mul) (
 
   -- a sum with one term alone
   first_alone : (s t u : ℕ) → s < q → t ≡ 0 → u ≡ 0 → add s (add t u) ≡ s
-  first_alone s t u l e f = ap (add s) (ap₂ add e f ∙ plus_zero) ∙ r.zero_neutral s l
+  first_alone s t u l e f = ap (add s) (ap₂ add e f ∙ zero_sum) ∙ r.zero_neutral s l
 
   second_alone : (s t u : ℕ) → t < q → s ≡ 0 → u ≡ 0 → add s (add t u) ≡ t
-  second_alone s t u l e f = adds_left s t u ∙ first_alone t s u l e f
+  second_alone s t u l e f = sums_left s t u ∙ first_alone t s u l e f
 
   third_alone : (s t u : ℕ) → u < q → s ≡ 0 → t ≡ 0 → add s (add t u) ≡ u
   third_alone s t u l e f = ap (add s) (r.sums_commute t u) ∙ second_alone s u t l e f
 
   times_none : (s t : ℕ) → s ≡ 0 → mul s t ≡ 0
-  times_none s t e = ap (λ w. mul w t) e ∙ zero_times t
+  times_none s t e = ap (λ w. mul w t) e ∙ zero-mul t
 
   times_conj : (s t : ℕ) → t ≡ 0 → mul s (conj t) ≡ 0
-  times_conj s t e = ap (λ w. mul s (conj w)) e ∙ ap (mul s) conj_zero ∙ times_zero s
+  times_conj s t e = ap (λ w. mul s (conj w)) e ∙ ap (mul s) conj_zero ∙ mul-zero s
 
   only_a : (u : Vector) → Below u → u.b ≡ 0 → u.c ≡ 0 → form u u ≡ 0 → u.a ≡ 0
   unfolding hermitian
@@ -144,16 +120,16 @@ module _ (q : ℕ) (add mul : ℕ → ℕ → ℕ) (field : IsField q add mul) (
     form-multiple : form (mix c x 0 o) (mix c x 0 o) ≡ mul c (mul (conj c) (conj (form x x)))
     form-multiple =
         let u = mix c x 0 o in
-        let alone : (z : Vector) → form u z ≡ mul c (form x z) = λ z. form-mix c x 0 o z ∙ ap (add (mul c (form x z))) (zero_times (form o z)) ∙ r.zero_neutral (mul c (form x z)) (r.products_below c (form x z)) in
+        let alone : (z : Vector) → form u z ≡ mul c (form x z) = λ z. form-mix c x 0 o z ∙ ap (add (mul c (form x z))) (zero-mul (form o z)) ∙ r.zero_neutral (mul c (form x z)) (r.products_below c (form x z)) in
         alone u ∙ ap (mul c) (form-turn u x lx ∙ ap conj (alone x) ∙ conjugation.products c (form x x))
 
     pub multiple_zero : form x x ≡ 0 → form (mix c x 0 o) (mix c x 0 o) ≡ 0
-    multiple_zero e = form-multiple ∙ ap (λ w. mul c (mul (conj c) (conj w))) e ∙ ap (λ w. mul c (mul (conj c) w)) conj_zero ∙ ap (mul c) (times_zero (conj c)) ∙ times_zero c
+    multiple_zero e = form-multiple ∙ ap (λ w. mul c (mul (conj c) (conj w))) e ∙ ap (λ w. mul c (mul (conj c) w)) conj_zero ∙ ap (mul c) (mul-zero (conj c)) ∙ mul-zero c
 
     pub multiple_zero-from : c ≢ 0 → form (mix c x 0 o) (mix c x 0 o) ≡ 0 → form x x ≡ 0
-    multiple_zero-from ne e = elim (zero_or c (mul (conj c) (conj (form x x))) hc (r.products_below (conj c) (conj (form x x))) (sym form-multiple ∙ e)) [
+    multiple_zero-from ne e = elim (no_zero_divisors c (mul (conj c) (conj (form x x))) hc (r.products_below (conj c) (conj (form x x))) (sym form-multiple ∙ e)) [
       | inl f ↦ absurd (ne f)
-      | inr f ↦ elim (zero_or (conj c) (conj (form x x)) (conjugation.below c) (conjugation.below (form x x)) f) [
+      | inr f ↦ elim (no_zero_divisors (conj c) (conj (form x x)) (conjugation.below c) (conjugation.below (form x x)) f) [
         | inl g ↦ absurd (ne (zero_conj c hc g))
         | inr g ↦ zero_conj (form x x) (form_below x x) g
       ]
@@ -172,13 +148,13 @@ module _ (q : ℕ) (add mul : ℕ → ℕ → ℕ) (field : IsField q add mul) (
 
   crossed : (s t : ℕ) → add (mul t s) (mul (negative s) t) ≡ 0
   unfolding negative
-  crossed s t = ap (add (mul t s)) (r.products_commute (r.negatives s).0 t) ∙ sym (r.products_distribute t s (r.negatives s).0) ∙ ap (mul t) (r.negatives s).2 ∙ times_zero t
+  crossed s t = ap (add (mul t s)) (r.products_commute (r.negatives s).0 t) ∙ sym (r.products_distribute t s (r.negatives s).0) ∙ ap (mul t) (r.negatives s).2 ∙ mul-zero t
 
   steep : (p z : Vector) → Below p → Below z → p.a ≢ 0 → z.a ≡ 0 → z.b ≢ 0 → form p p ≡ 0 → form z z ≡ 0 → form p z ≡ 0 → ⊥
   unfolding mixed hermitian negative
   steep p z lp lz pa za zb pp zz pz =
-      elim (zero_or w.c (conj z.c) lw.c (conjugation.below z.c) (sym last ∙ mixed_zero z.b p (negative p.b) z z pz zz)) [
-        | inl e ↦ elim (zero_or z.b p.a lz.b lp.a (sym w_first ∙ only_a w lw (crossed p.b z.b) e (flat z.b p (negative p.b) z lp lz pp zz pz))) [ inl f ↦ zb f | inr f ↦ pa f ]
+      elim (no_zero_divisors w.c (conj z.c) lw.c (conjugation.below z.c) (sym last ∙ mixed_zero z.b p (negative p.b) z z pz zz)) [
+        | inl e ↦ elim (no_zero_divisors z.b p.a lz.b lp.a (sym w_first ∙ only_a w lw (crossed p.b z.b) e (flat z.b p (negative p.b) z lp lz pp zz pz))) [ inl f ↦ zb f | inr f ↦ pa f ]
         | inr e ↦ zb (only_b z lz za (zero_conj z.c lz.c e) zz)
       ]
     where
@@ -189,7 +165,7 @@ module _ (q : ℕ) (add mul : ℕ → ℕ → ℕ) (field : IsField q add mul) (
       lw = mix_below z.b p (negative p.b) z
 
       w_first : w.a ≡ mul z.b p.a
-      w_first = ap (λ t. add (mul z.b p.a) (mul (negative p.b) t)) za ∙ ap (add (mul z.b p.a)) (times_zero (negative p.b)) ∙ r.zero_neutral (mul z.b p.a) (r.products_below z.b p.a)
+      w_first = ap (λ t. add (mul z.b p.a) (mul (negative p.b) t)) za ∙ ap (add (mul z.b p.a)) (mul-zero (negative p.b)) ∙ r.zero_neutral (mul z.b p.a) (r.products_below z.b p.a)
 
       last : form w z ≡ mul w.c (conj z.c)
       last = third_alone (mul w.a (conj z.a)) (mul w.b (conj z.b)) (mul w.c (conj z.c)) (r.products_below w.c (conj z.c)) (times_conj w.a z.a za) (times_none w.b (conj z.b) (crossed p.b z.b))
@@ -204,7 +180,7 @@ module _ (q : ℕ) (add mul : ℕ → ℕ → ℕ) (field : IsField q add mul) (
       level xa ya =
           let cross = lone y.b (negative x.b) ly.b (negative_below x.b) (ap₂ (λ s t. add (mul y.b s) (mul (negative x.b) t)) xa ya ∙ none y.b (negative x.b)) (crossed x.b y.b) in
           let xb : x.b ≡ 0 = negative_zero x.b lx.b cross.1 in
-          let one_none : ◌≡◌ {A = ℕ} 1 0 = (lone 1 0 r.one_below positive (ap₂ (λ s t. add (mul 1 s) (mul 0 t)) xa ya ∙ none 1 0) (ap₂ (λ s t. add (mul 1 s) (mul 0 t)) xb cross.0 ∙ none 1 0)).0 in
+          let one_none : ◌≡◌ {A = ℕ} 1 0 = (lone 1 0 r.one_below zero_below (ap₂ (λ s t. add (mul 1 s) (mul 0 t)) xa ya ∙ none 1 0) (ap₂ (λ s t. add (mul 1 s) (mul 0 t)) xb cross.0 ∙ none 1 0)).0 in
           absurd (omega arith)
 
       z : Vector
@@ -259,9 +235,9 @@ module _ (q : ℕ) (add mul : ℕ → ℕ → ℕ) (field : IsField q add mul) (
         let u = mix 1 x t y in
         let lu = mix_below 1 x t y in
         let ux : form u x ≡ mul t (conj (form x y)) =
-        form-mix 1 x t y x ∙ ap₂ add (ap (mul 1) xx ∙ times_zero 1) (ap (mul t) (form-turn x y ly)) ∙ left_zero (mul t (conj (form x y))) (r.products_below t (conj (form x y))) in
+        form-mix 1 x t y x ∙ ap₂ add (ap (mul 1) xx ∙ mul-zero 1) (ap (mul t) (form-turn x y ly)) ∙ left_zero (mul t (conj (form x y))) (r.products_below t (conj (form x y))) in
         let uy : form u y ≡ form x y =
-        form-mix 1 x t y y ∙ ap₂ add (left_one (form x y) (form_below x y)) (ap (mul t) yy ∙ times_zero t) ∙ r.zero_neutral (form x y) (form_below x y) in
+        form-mix 1 x t y y ∙ ap₂ add (left_one (form x y) (form_below x y)) (ap (mul t) yy ∙ mul-zero t) ∙ r.zero_neutral (form x y) (form_below x y) in
         form-mix 1 x t y u
         ∙ ap₂ add
         (left_one (form x u) (form_below x u) ∙ form-turn u x lx ∙ ap conj ux ∙ conjugation.products t (conj (form x y)) ∙ ap (mul (conj t)) (conjugation.twice (form x y) (form_below x y)))
@@ -278,5 +254,5 @@ module _ (q : ℕ) (add mul : ℕ → ℕ → ℕ) (field : IsField q add mul) (
     line_zeros =
         sum_below-same q _ (λ t. one (add (mul (conj t) between) (conj (mul (conj t) between)) == 0)) (λ t l. ap (λ v. one (v == 0)) (along t l))
         ∙ sum_below-moved q (λ t. mul (conj t) between) (λ w. one (add w (conj w) == 0)) (λ t l. r.products_below (conj t) between)
-        (λ t u l m e. sym (conjugation.twice t l) ∙ ap conj (mul_cancel q add mul r field.inverses between (conj t) (conj u) (pos_of_ne-zero not_zero) between_below (conjugation.below t) (conjugation.below u)
+        (λ t u l m e. sym (conjugation.twice t l) ∙ ap conj (mul_cancel between (conj t) (conj u) (pos_of_ne-zero not_zero) between_below (conjugation.below t) (conjugation.below u)
         (r.products_commute between (conj t) ∙ e ∙ r.products_commute (conj u) between)) ∙ conjugation.twice u m)

@@ -10,9 +10,8 @@ use Rattle.counting.specs.Sums.{join_below, list_below}
 use Rattle.design_base.specs.Blocks.{IsBibd, cover}
 use Rattle.design_base.specs.Canonical.{canonical}
 use Rattle.design_base.specs.Fields.{Modulus, field_product, field_sum, has_field, product_in, modulus_of, moduli, sum_in}
-use Rattle.field_tables.proofs.Listed.{listed_field, modulus_known}
+use Rattle.field_tables.proofs.Listed.{listed_field, modulus_known, order_above}
 use Rattle.field_tables.proofs.Search.{passes_below}
-use Rattle.spaces.proofs.Bounds.{order_above}
 use Rattle.spaces.proofs.Leads.{length-points}
 use Rattle.spaces.specs.Lines.{projective_lines, projective_lines_over}
 use Rattle.spaces.specs.Points.{points}

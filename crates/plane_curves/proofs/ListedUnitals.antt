@@ -13,11 +13,10 @@ use Rattle.design_base.specs.Canonical.{canonical}
 use Rattle.design_base.specs.Fields.{Modulus, field_product, field_sum, has_field, product_in, modulus_of, moduli, sum_in}
 use Rattle.design_base.specs.Rings.{IsField}
 use Rattle.field_tables.proofs.Search.{passes_below}
-use Rattle.counting.proofs.Totals.{sum_by-list_below}
+use Rattle.counting.proofs.Totals.{length_filtered, sum_by-list_below}
 use Rattle.field_tables.specs.Powers.{power}
 use Rattle.field_tables.proofs.AnyField.{products_left}
-use Rattle.field_tables.proofs.Listed.{listed_field, modulus_known}
-use Rattle.spaces.proofs.Bounds.{order_above}
+use Rattle.field_tables.proofs.Listed.{listed_field, modulus_known, order_above}
 use Rattle.spaces.proofs.Leads.{is_lead, length-points, points_apart}
 use Rattle.spaces.proofs.Projective.{ArePlaced}
 use Rattle.spaces.proofs.Space.{IsSpace}
@@ -28,7 +27,7 @@ use Rattle.plane_curves.specs.Curves.{is_power_zero, unital_blocks}
 use Rattle.plane_curves.specs.Traces.{points_on, trace}
 use Rattle.plane_curves.proofs.Hermitian.{IsConjugation}
 use Rattle.spaces.proofs.LineDesigns.{listed_projective, places}
-use Rattle.plane_curves.proofs.Sections.{length_filtered, point_at, sum_places, vectors}
+use Rattle.plane_curves.proofs.Sections.{point_at, sum_places, vectors}
 use Rattle.plane_curves.proofs.Unitals.{unital_design, unital_sections}
 use Rattle.plane_curves.proofs.CurveLists.{are_over, curve_lines, length-curve_points}
 use Rattle.plane_curves.specs.Secants.{IsOver, curve_points, secant}

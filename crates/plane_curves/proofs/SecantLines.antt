@@ -14,7 +14,7 @@ use Rattle.counting.specs.Sorting.{sort_by}
 use Rattle.counting.specs.Sums.{join_below, list_below, one, sum_below}
 use Rattle.design_base.proofs.Canonical.{differs_below, holds-sort_by}
 use Rattle.design_base.proofs.Cover.{cover-cons}
-use Rattle.design_base.proofs.Points.{differs_filter}
+use Rattle.design_base.proofs.Points.{differs_filter, holds_filtered}
 use Rattle.design_base.proofs.Sorted.{lex_le-order}
 use Rattle.design_base.specs.Blocks.{IsBibd, cover, holds}
 use Rattle.design_base.specs.Canonical.{canonical, lex_le}
@@ -29,8 +29,9 @@ use Rattle.spaces.specs.Lines.{each_once, points_in, projective_lines_over, subs
 use Rattle.spaces.specs.Points.{lead, points}
 use Rattle.spaces.specs.Vectors.{multiple, vector_sum}
 use Rattle.plane_curves.specs.Traces.{points_on, trace}
-use Rattle.plane_curves.proofs.Sections.{Is, below, in_plane, length_filtered, part_size, plane_holds, point_at, rises, two_pass, vectors}
-use Rattle.plane_curves.proofs.Traces.{holds_filtered, holds_part, part_differs, two_held}
+use Rattle.plane_curves.proofs.Sections.{Is, below, in_plane, part_size, plane_holds, point_at, rises, two_pass, vectors}
+use Rattle.counting.proofs.Totals.{length_filtered}
+use Rattle.plane_curves.proofs.Traces.{holds_part, part_differs, two_held}
 
 -- what is kept of a list by a test
 pub filter-same : (p t : ℕ → Bool) (xs : List ℕ) → AllByRecursion (λ x. p x ≡ t x) xs → filter p xs ≡ filter t xs

@@ -9,10 +9,9 @@ use Rattle.counting.proofs.Counts.{join_below_more, join_below_none}
 use Rattle.counting.proofs.Lists.{all_filter}
 use Rattle.counting.proofs.Ranges.{each_below, length-list_below}
 use Rattle.counting.specs.Sums.{list_below}
-use Rattle.design_base.proofs.Points.{each_at}
+use Rattle.design_base.proofs.Points.{each_at, holds_filtered}
 use Rattle.spaces.specs.Least.{are_least}
 use Rattle.spaces.proofs.LeastSteps.{least_lines-more, least_lines-none, lines_to-left, lines_to-none, lines_to-taken}
-use Rattle.plane_curves.proofs.Traces.{holds_filtered}
 use Rattle.plane_curves.specs.Secants.{dot, half_cross, is_on_line, secant, secant_below, vector_at}
 use Rattle.plane_curves.specs.declared.vectors.Vector.{Vector}
 

@@ -11,7 +11,7 @@ use Rattle.std.specs.List.{sum_by}
 use Rattle.std.specs.List.Sorted.{IsStrictlyIncreasing}
 use Rattle.std.specs.Prelude.{All, filter, nat_le}
 use Rattle.counting.proofs.Counts.{one-false, one-true, sum_below-none, sum_below-same, sum_below-suc, sum_below-zero}
-use Rattle.counting.proofs.Lists.{all_filter, each_map, one-and, sum_by-length}
+use Rattle.counting.proofs.Lists.{all_filter, each_map, one-and}
 use Rattle.counting.proofs.OnePlace.{filter_sum}
 use Rattle.counting.proofs.Ranges.{All-join_below, each_below, get_or-list_below, length-list_below}
 use Rattle.counting.proofs.Sorting.{each-sort_by}
@@ -24,7 +24,7 @@ use Rattle.design_base.specs.Blocks.{IsBibd, cover, holds}
 use Rattle.design_base.specs.Canonical.{canonical, lex_le}
 use Rattle.design_base.specs.Rings.{IsField}
 use Rattle.counting.proofs.ButOne.{sum_below-plus}
-use Rattle.counting.proofs.Totals.{sum_below-single, sum_by-list_below}
+use Rattle.counting.proofs.Totals.{length_filtered, sum_below-single, sum_by-list_below}
 use Rattle.spaces.proofs.Leads.{each_point, is_lead, points_apart}
 use Rattle.spaces.proofs.LinearSpaces.{least_below}
 use Rattle.spaces.proofs.Once.{each-dedup}
@@ -36,7 +36,8 @@ use Rattle.spaces.specs.Lines.{each_once, points_in, projective_lines_over, subs
 use Rattle.spaces.specs.Points.{lead, points}
 use Rattle.spaces.specs.Vectors.{combination, multiple, vector_sum}
 use Rattle.plane_curves.specs.Traces.{points_on, trace}
-use Rattle.plane_curves.proofs.Traces.{IsCut, holds_filtered, trace_design}
+use Rattle.plane_curves.proofs.Traces.{IsCut, trace_design}
+use Rattle.design_base.proofs.Points.{holds_filtered}
 
 -- two numbers below n that pass a test, or no two
 pub two_pass : (n : ℕ) (p : ℕ → Bool) → (sum_below n (λ i. one (p i)) ≤ 1) ⊎ ((i : ℕ) × (j : ℕ) × (i < j) × (j < n) × (p i ≡ true) × (p j ≡ true))
@@ -65,10 +66,6 @@ sum_places f (x ∷ xs) =
       sum_places f xs,
       sum_by-cons f x xs,
     )
-
-pub length_filtered : (p : ℕ → Bool) (n : ℕ) → length (filter p (list_below n (λ i. i))) ≡ sum_below n (λ i. one (p i))
-length_filtered p n = sym (sum_by-length (filter p (list_below n (λ i. i)))) ∙ filter_sum p (λ i. 1) (list_below n (λ i. i))
-    ∙ sum_by-list_below (λ i. one (p i) * 1) n (λ i. i) ∙ sum_below-same n _ _ (λ i l. omega arith)
 
 module _ (q : ℕ) (add mul : ℕ → ℕ → ℕ) (field : IsField q add mul) (n : ℕ) where
   abbrev v : ℕ

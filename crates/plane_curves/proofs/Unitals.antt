@@ -21,13 +21,12 @@ use Rattle.spaces.specs.Points.{lead, points}
 use Rattle.spaces.specs.Vectors.{combination, multiple, vector_sum}
 use Rattle.plane_curves.specs.Curves.{is_power_zero}
 use Rattle.plane_curves.specs.Traces.{points_on, trace}
-use Rattle.plane_curves.proofs.Arcs.{sum_set}
 use Rattle.plane_curves.proofs.Hermitian.{IsConjugation, IsIndependent, hermitian, line_zeros, mixed, multiple_zero, multiple_zero-from}
 use Rattle.plane_curves.specs.Secants.{entries as entries_of}
 use Rattle.plane_curves.specs.declared.vectors.Vector.{Vector}
 use Rattle.plane_curves.proofs.Planes.{entries-mix, entries_below, independent as independent_of, no_weights as weights_of}
 use Rattle.plane_curves.proofs.Sections.{curve_design, in_plane, plane_holds, point_at, vectors}
-use Rattle.plane_curves.proofs.Traces.{holds_filtered}
+use Rattle.design_base.proofs.Points.{holds_filtered, sum_set}
 
 module _ (q : ℕ) (add mul : ℕ → ℕ → ℕ) (field : IsField q add mul) (p : ℕ) (conjugation : IsConjugation q add mul (λ x. power mul x p))
     (kernel : sum_below q (λ w. one (add w (power mul w p) == 0)) ≡ p) where

@@ -6,9 +6,10 @@ ghost use Rattle.plane_curves.specs.Curves.{is_on_arc, is_power_zero, is_rootles
 ghost use Rattle.plane_curves.specs.Secants.{IsOver, curve_points};
 ghost use Rattle.spaces.specs.Points.{lead as lead_of};
 
-use crate::vectors::{Vector, entries, lead};
+use crate::vectors::{Vector, entries};
 use design_base::Memory;
 use field_tables::Field;
+use spaces::lead;
 use std::alloc::Global;
 
 // The sum of the `n`-th powers of the entries.
@@ -30,18 +31,17 @@ fn vector_count(field: &Field) -> u32
 }
 
 // Whether the vector of a number is a point at which the sum of the `n`-th powers of the entries is 0.
-#[tactic(auto, unfolding(crate::specs::Curves::is_power_zero, crate::specs::Secants::entries, spaces::specs::Points::lead))]
+#[tactic(auto, unfolding(crate::specs::Curves::is_power_zero, crate::specs::Secants::entries), using(field_tables::proofs::Listed::order_above))]
 fn is_power_point(field: &Field, n: u16, z: u32) -> bool
     requires { has_field field.now ≡ true }
     ensures { result ≡ (lead_of field.now 3 z == 1 && is_power_zero (field_sum field.now) (field_product field.now) field.now n z) }
 {
-    let x = entries(field, z);
-    lead(x) == 1 && power_sum(field, x, n) == 0
+    lead(field.order(), 3, z) == 1 && power_sum(field, entries(field, z), n) == 0
 }
 
 // The points at which the sum of the `n`-th powers of the entries is 0.
 #[tactic(auto, using(crate::proofs::CurveSteps::curve_steps))]
-pub fn power_points(alloc: Global, field: &Field, n: u16) -> Result<Vec<Vector>, Memory>
+pub(crate) fn power_points(alloc: Global, field: &Field, n: u16) -> Result<Vec<Vector>, Memory>
     ensures { IfOk result (λ points. points.items ≡ curve_points field.now (is_power_zero (field_sum field.now) (field_product field.now) field.now n) (field.now ^ 3)) }
 {
     let mut points = Vec::new(alloc);
@@ -64,7 +64,7 @@ fn quadratic(field: &Field, c: u16, x: u16, y: u16) -> u16
 }
 
 // Whether x ^ 2 + x + c has no root.
-#[tactic(auto, using(spaces::proofs::Bounds::order_above))]
+#[tactic(auto, using(field_tables::proofs::Listed::order_above))]
 fn is_rootless(field: &Field, c: u16) -> bool
     requires { c < field.now }
     ensures { result ≡ is_rootless_of (field_sum field.now) (field_product field.now) field.now c }
@@ -78,7 +78,7 @@ fn is_rootless(field: &Field, c: u16) -> bool
 }
 
 // The least such c, and 0 where there is none.
-#[tactic(auto, using(spaces::proofs::Bounds::order_above))]
+#[tactic(auto, using(field_tables::proofs::Listed::order_above))]
 fn least_rootless(field: &Field) -> u16
     ensures value { result ≡ least_rootless_of (field_sum field.now) (field_product field.now) field.now }
     ensures below { result < field.now }
@@ -103,7 +103,7 @@ fn is_arc_point(field: &Field, c: u16, bound: u16, z: u32) -> bool
 
 // Those points, where x ^ 2 + x + c has no root for the least such c.
 #[tactic(auto, using(crate::proofs::CurveSteps::curve_steps))]
-pub fn arc_points(alloc: Global, field: &Field, bound: u16) -> Result<Vec<Vector>, Memory>
+pub(crate) fn arc_points(alloc: Global, field: &Field, bound: u16) -> Result<Vec<Vector>, Memory>
     ensures { IfOk result (λ points. points.items ≡ curve_points field.now (is_on_arc (field_sum field.now) (field_product field.now) field.now (least_rootless_of (field_sum field.now) (field_product field.now) field.now) bound) (field.now ^ 3)) }
 {
     let c = least_rootless(field);

@@ -85,7 +85,7 @@ fn push_secants_to(
 
 // All lines of two vectors of the list, each once, in canonical form.
 #[tactic(auto, using(crate::proofs::SecantSteps::secant_steps))]
-pub fn secants(alloc: Global, field: &Field, vectors: &[Vector]) -> Result<Rows, Memory>
+pub(crate) fn secants(alloc: Global, field: &Field, vectors: &[Vector]) -> Result<Rows, Memory>
     requires over { All (IsOver field.now) vectors.now }
     requires few { length vectors.now ≤ POINTS_MAX }
     ensures { IfOk result (λ rows. rows ≡ canonical (least_lines (secant_of (field_sum field.now) (field_product field.now) vectors.now) (length vectors.now))) }

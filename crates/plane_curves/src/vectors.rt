@@ -1,8 +1,7 @@
 // Vectors of three entries over a field, and the lines of two of them.
-ghost use Rattle.std.specs.Prelude.{◌≡◌, ◌<◌, ◌==◌, [], ◌∷◌};
+ghost use Rattle.std.specs.Prelude.{◌≡◌, ◌<◌, ◌==◌};
 ghost use Rattle.design_base.specs.Fields.{field_product, field_sum};
 ghost use Rattle.plane_curves.specs.Secants.{IsOver, dot as dot_of, entries as entries_of, half_cross as half_cross_of};
-ghost use Rattle.spaces.specs.Points.{first_nonzero};
 
 use field_tables::Field;
 
@@ -15,8 +14,8 @@ pub struct Vector {
 }
 
 // The vector of a number, whose digits to the base q are its entries, the first one lowest.
-#[tactic(auto, unfolding(crate::specs::Secants::entries), using(spaces::proofs::Bounds::order_above))]
-pub fn entries(field: &Field, z: u32) -> Vector
+#[tactic(auto, unfolding(crate::specs::Secants::entries), using(field_tables::proofs::Listed::order_above))]
+pub(crate) fn entries(field: &Field, z: u32) -> Vector
     ensures value { result ≡ entries_of field.now z }
     ensures over { IsOver field.now result }
 {
@@ -28,22 +27,9 @@ pub fn entries(field: &Field, z: u32) -> Vector
     }
 }
 
-// The first entry that is not 0, and 0 where there is none.
-pub fn lead(x: Vector) -> u16
-    ensures { result ≡ first_nonzero (x.a ∷ x.b ∷ x.c ∷ []) }
-{
-    if x.a != 0 {
-        x.a
-    } else if x.b != 0 {
-        x.b
-    } else {
-        x.c
-    }
-}
-
 // The sum of the products of the entries.
 #[tactic(auto, unfolding(crate::specs::Secants::dot))]
-pub fn dot(field: &Field, x: Vector, y: Vector) -> u16
+pub(crate) fn dot(field: &Field, x: Vector, y: Vector) -> u16
     requires first { IsOver field.now x }
     requires second { IsOver field.now y }
     ensures { result ≡ dot_of (field_sum field.now) (field_product field.now) x y }
@@ -54,7 +40,7 @@ pub fn dot(field: &Field, x: Vector, y: Vector) -> u16
 
 // One half of the terms of the cross product; the other half is that of `y` and `x`.
 #[tactic(auto, unfolding(crate::specs::Secants::half_cross))]
-pub fn half_cross(field: &Field, x: Vector, y: Vector) -> Vector
+pub(crate) fn half_cross(field: &Field, x: Vector, y: Vector) -> Vector
     requires first { IsOver field.now x }
     requires second { IsOver field.now y }
     ensures value { result ≡ half_cross_of (field_product field.now) x y }
@@ -68,7 +54,7 @@ pub fn half_cross(field: &Field, x: Vector, y: Vector) -> Vector
 }
 
 // Whether a vector is on the line whose vectors have the same product with both halves of a cross product.
-pub fn is_on(field: &Field, left: Vector, right: Vector, z: Vector) -> bool
+pub(crate) fn is_on(field: &Field, left: Vector, right: Vector, z: Vector) -> bool
     requires left { IsOver field.now left }
     requires right { IsOver field.now right }
     requires vector { IsOver field.now z }

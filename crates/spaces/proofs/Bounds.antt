@@ -1,11 +1,10 @@
 -- Bounds on the dimension, the order and the vectors of a geometry, from the number of its points.
-use Rattle.std.proofs.Common.{ap, arith, subst, suc, true, zero, ℕ, ◌*◌, ◌+◌, ◌-◌, ◌<◌, ◌^◌, ◌≡◌, ◌≤◌}
+use Rattle.std.proofs.Common.{ap, arith, subst, suc, zero, ℕ, ◌*◌, ◌+◌, ◌-◌, ◌<◌, ◌^◌, ◌≡◌, ◌≤◌}
 use Rattle.std.proofs.Math.Nat.{mul-le-mul_left, mul-le-mul_right, one-le-pow, pow-le-pow_right, pow-suc, pow-zero}
 use Rattle.counting.proofs.Counts.{sum_below-none, sum_below-suc}
 use Rattle.counting.specs.Sums.{sum_below}
-use Rattle.design_base.specs.Fields.{has_field}
 use Rattle.design_base.specs.declared.limits.TheConstants.{POINTS_MAX}
-use Rattle.field_tables.proofs.Listed.{listed_field}
+use Rattle.field_tables.proofs.Listed.{order_above}
 use Rattle.design_base.proofs.Geometries.{count_vectors}
 use Rattle.design_base.specs.Geometries.{point_count}
 
@@ -46,8 +45,5 @@ entries_below q zero h = omega arith
 entries_below q (suc n) h =
     let more : 2 * q ^ n ≤ q * q ^ n = mul-le-mul_right (q ^ n) h in
     omega (arith, more, pow-suc q n, entries_below q n h, one-le-pow n q (let pos : 0 < q = omega arith in pos))
-
-pub order_above : (q : ℕ) → has_field q ≡ true → 1 < q
-order_above q listed = (listed_field q listed).ring.one_below
 
 pub ruleset bounds = (dimension_small, order_small, vectors_fit, some_vectors, order_below, order_above, entries_below)

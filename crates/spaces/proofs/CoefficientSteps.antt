@@ -3,10 +3,8 @@ use Rattle.std.proofs.Common.{List, [], ap, arith, get_or, inl, inr, length, ref
 use Rattle.counting.proofs.Booleans.{cases_eq}
 use Rattle.std.proofs.lemmas.List.{get_or_append_left, get_or_push, length_push}
 use Rattle.design_base.specs.Fields.{field_sum, has_field}
-use Rattle.field_tables.proofs.Listed.{listed_field}
-use Rattle.spaces.proofs.Bounds.{order_above}
+use Rattle.field_tables.proofs.Listed.{listed_field, order_above}
 use Rattle.spaces.specs.Coefficients.{AreAffine, AreProjective, AreSlopes}
-use Rattle.field_tables.proofs.Listed.{listed_field}
 
 pub affine-none : (add : ℕ → ℕ → ℕ) → AreAffine add 0 []
 affine-none add = record { count = refl; second = λ t l. absurd (omega arith); sum_one = λ t l. absurd (omega arith) }

@@ -1,23 +1,24 @@
 -- The first nonzero entry of a vector, and the points, for which it is 1.
-use Rattle.std.proofs.Common.{Bool, List, [], ap, ap₂, arith, cond, get_or, inl, inr, length, map, refl, replicate, subst, suc, sym, true, zero, ℕ, ◌*◌, ◌+◌, ◌<◌, ◌==◌, ◌^◌, ◌∙◌, ◌∷◌, ◌≡◌, ◌≢◌, ◌⊎◌}
+use Rattle.std.proofs.Common.{List, [], ap, ap₂, arith, cond, get_or, inl, inr, length, map, refl, replicate, subst, suc, sym, true, zero, ℕ, ◌*◌, ◌+◌, ◌<◌, ◌==◌, ◌^◌, ◌∙◌, ◌∷◌, ◌≡◌, ◌≢◌, ◌⊎◌}
 use Rattle.std.proofs.Math.Nat.{pos_of_ne-zero, pow-suc, pow-zero}
-use Rattle.counting.proofs.Booleans.{cases_eq, cases_order, cond_both, eq-eqb, eqb-true, false≢true, ne_eqb, or_cases}
-use Rattle.std.proofs.lemmas.List.Elements.{All-from_recursion, filter-append}
-use Rattle.std.proofs.lemmas.List.{length-append}
+use Rattle.counting.proofs.Booleans.{cases_eq, cases_order, eq-eqb, eqb-true, false≢true, ne_eqb, or_cases}
+use Rattle.std.proofs.lemmas.List.Elements.{All-from_recursion}
 use Rattle.std.proofs.lemmas.Nat.{div-mul-add, mod-mul-add}
 use Rattle.std.specs.List.{AllByRecursion}
 use Rattle.std.specs.Prelude.{Contains, filter}
+use Rattle.counting.proofs.ButOne.{sum_below-groups}
+use Rattle.counting.proofs.Totals.{length_filtered}
 use Rattle.counting.proofs.Counts.{count_equal, one-false, one-true, sum_below-add, sum_below-const, sum_below-mul, sum_below-same}
 use Rattle.counting.proofs.Lists.{all_filter}
 use Rattle.counting.proofs.Ranges.{each_below}
-use Rattle.counting.specs.Sums.{join_below, list_below, one, sum_below}
+use Rattle.counting.specs.Sums.{list_below, one, sum_below}
 use Rattle.design_base.proofs.Canonical.{Differs, differs_below}
 use Rattle.design_base.proofs.Points.{differs_filter, holds-filter}
 use Rattle.design_base.proofs.Cover.{holds-cons, holds-none, holds_below-from}
 use Rattle.design_base.specs.Blocks.{holds}
 use Rattle.design_base.specs.Digits.{digits, number}
 use Rattle.design_base.specs.Rings.{IsField}
-use Rattle.field_tables.proofs.AnyField.{mul-zero, no_zero_divisors}
+use Rattle.field_tables.proofs.AnyField.{field_laws}
 use Rattle.field_tables.proofs.Numbers.{digits_below, number-digits}
 use Rattle.spaces.proofs.Span.{IsLead}
 use Rattle.spaces.proofs.VectorSpaces.{D_multiple, D_zero}
@@ -62,37 +63,30 @@ neither (inl a) f g = f a
 neither (inr b) f g = g b
 
 module _ (q : ℕ) (add mul : ℕ → ℕ → ℕ) (field : IsField q add mul) where
-  positive : 0 < q
-  positive = let h : 1 < q = field.ring.one_below in omega arith
-
-  times_zero : (x : ℕ) → mul x 0 ≡ 0
-  times_zero x = mul-zero q add mul field.ring x
-
-  zero_times : (x : ℕ) → mul 0 x ≡ 0
-  zero_times x = field.ring.products_commute 0 x ∙ times_zero x
+  open field_laws q add mul field use {mul-zero, no_zero_divisors, zero-mul, zero_below}
 
   first_multiple : (c : ℕ) → c < q → c ≢ 0 → (x : List ℕ) → AllByRecursion (λ t. t < q) x → first_nonzero (map (mul c) x) ≡ mul c (first_nonzero x)
-  first_multiple c hc ne [] h = sym (times_zero c)
+  first_multiple c hc ne [] h = sym (mul-zero c)
   first_multiple c hc ne (x ∷ xs) h = elim (cases_eq x 0) [
-    | inl e ↦ skip (mul c x) (first_nonzero (map (mul c) xs)) (ap (mul c) e ∙ times_zero c) ∙ first_multiple c hc ne xs h.1 ∙ ap (mul c) (sym (skip x (first_nonzero xs) e))
-    | inr e ↦ keep (mul c x) (first_nonzero (map (mul c) xs)) (λ z. neither (no_zero_divisors q add mul field.ring field.inverses c x hc h.0 z) ne e) ∙ ap (mul c) (sym (keep x (first_nonzero xs) e))
+    | inl e ↦ skip (mul c x) (first_nonzero (map (mul c) xs)) (ap (mul c) e ∙ mul-zero c) ∙ first_multiple c hc ne xs h.1 ∙ ap (mul c) (sym (skip x (first_nonzero xs) e))
+    | inr e ↦ keep (mul c x) (first_nonzero (map (mul c) xs)) (λ z. neither (no_zero_divisors c x hc h.0 z) ne e) ∙ ap (mul c) (sym (keep x (first_nonzero xs) e))
   ]
 
   first_none : (x : List ℕ) → first_nonzero (map (mul 0) x) ≡ 0
   first_none [] = refl
-  first_none (x ∷ xs) = skip (mul 0 x) (first_nonzero (map (mul 0) xs)) (zero_times x) ∙ first_none xs
+  first_none (x ∷ xs) = skip (mul 0 x) (first_nonzero (map (mul 0) xs)) (zero-mul x) ∙ first_none xs
 
   pub is_lead : (n : ℕ) → IsLead q (q ^ n) mul (multiple mul q n) (lead q n)
   unfolding lead
   is_lead n = record {
-    lead_below = λ z. first_below q (digits q n z) positive (digits_below q positive n z);
+    lead_below = λ z. first_below q (digits q n z) zero_below (digits_below q zero_below n z);
     lead-scale = λ c z hc. ap first_nonzero (D_multiple q add mul field.ring n c z) ∙ elim (cases_eq c 0) [
       | inl e ↦ ap (λ t. first_nonzero (map (mul t) (digits q n z))) e ∙ first_none (digits q n z)
-          ∙ sym (ap (λ t. mul t (first_nonzero (digits q n z))) e ∙ zero_times (first_nonzero (digits q n z)))
-      | inr e ↦ first_multiple c hc e (digits q n z) (digits_below q positive n z)
+          ∙ sym (ap (λ t. mul t (first_nonzero (digits q n z))) e ∙ zero-mul (first_nonzero (digits q n z)))
+      | inr e ↦ first_multiple c hc e (digits q n z) (digits_below q zero_below n z)
     ];
     lead_zero = ap first_nonzero (D_zero q add mul field.ring n) ∙ first_zeros n;
-    zero_from_lead = λ z h e. sym (number-digits q positive n z h) ∙ all_zero q (digits q n z) e;
+    zero_from_lead = λ z h e. sym (number-digits q zero_below n z h) ∙ all_zero q (digits q n z) e;
   }
 
   pub lead_positive : (n x : ℕ) → 0 < x → x < q ^ n → 0 < lead q n x
@@ -130,26 +124,6 @@ points_apart q n i j hi hj e = elim (cases_order i j) [
 ]
 
 -- ---- how many points there are
-length_filter_below : (test : ℕ → Bool) (n : ℕ) → length (filter test (list_below n (λ i. i))) ≡ sum_below n (λ i. one (test i))
-unfolding join_below sum_below
-length_filter_below test zero = refl
-length_filter_below test (suc n) = ap length (filter-append test (list_below n (λ i. i)) (n ∷ [])) ∙ length-append (filter test (list_below n (λ i. i))) (filter test (n ∷ []))
-    ∙ ap₂ (λ s t. s + t) (length_filter_below test n) (single (test n))
-  where
-    single : (b : Bool) → length (cond b (n ∷ []) []) ≡ one b
-    single b = cond_both b (n ∷ []) [] (λ xs. length xs ≡ one b) (λ e. sym (one-true b e)) (λ e. sym (one-false b (λ f. absurd (let g = sym e ∙ f in cc))))
-
-sum_below-append : (m n : ℕ) (f : ℕ → ℕ) → sum_below (m + n) f ≡ sum_below m f + sum_below n (λ i. f (m + i))
-unfolding sum_below
-sum_below-append m zero f = ap (λ t. sum_below t f) (let e : m + 0 ≡ m = omega arith in e) ∙ omega arith
-sum_below-append m (suc n) f = ap (λ t. sum_below t f) (let e : m + suc n ≡ suc (m + n) = omega arith in e) ∙ omega (arith, sum_below-append m n f)
-
--- the numbers below n * q, by quotient and remainder
-sum_below-rows : (n q : ℕ) (f : ℕ → ℕ) → sum_below (n * q) f ≡ sum_below n (λ r. sum_below q (λ i. f (r * q + i)))
-unfolding sum_below
-sum_below-rows zero q f = ap (λ t. sum_below t f) (let e : 0 * q ≡ 0 = omega arith in e)
-sum_below-rows (suc n) q f = ap (λ t. sum_below t f) (let e : suc n * q ≡ n * q + q = omega arith in e) ∙ omega (arith, sum_below-append (n * q) q f, sum_below-rows n q f)
-
 -- the vectors with a first entry i: they are points where i is 1, and where it is 0 and the rest is a point
 test_split : (i x : ℕ) → one (cond (i == 0) x i == 1) ≡ one (x == 1) * one (0 == i) + one (1 == i)
 test_split i x = elim (cases_eq i 0) [
@@ -180,7 +154,7 @@ module _ (q : ℕ) (two : 1 < q) where
   counted_more : (n : ℕ) → counted q (suc n) ≡ counted q n + q ^ n
   counted_more n =
       ap (λ t. sum_below t (λ x. one (lead q (suc n) x == 1))) (pow-suc q n)
-      ∙ sum_below-rows (q ^ n) q (λ x. one (lead q (suc n) x == 1))
+      ∙ sum_below-groups (q ^ n) q (λ x. one (lead q (suc n) x == 1))
       ∙ sum_below-same (q ^ n) _ (λ r. one (lead q n r == 1) + 1) (λ r l. one_row n r)
       ∙ sum_below-add (q ^ n) (λ r. one (lead q n r == 1)) (λ r. 1)
       ∙ omega (arith, sum_below-const (q ^ n) 1)
@@ -195,4 +169,4 @@ module _ (q : ℕ) (two : 1 < q) where
 
   pub length-points : (d : ℕ) → length (points q (d + 1)) ≡ point_count q d
   unfolding points points_below point_count
-  length-points d = length_filter_below (λ x. lead q (d + 1) x == 1) (q ^ (d + 1)) ∙ counted_is (d + 1)
+  length-points d = length_filtered (λ x. lead q (d + 1) x == 1) (q ^ (d + 1)) ∙ counted_is (d + 1)

@@ -7,8 +7,8 @@ use Rattle.counting.specs.Sums.{list_below}
 use Rattle.design_base.specs.Blocks.{IsBibd}
 use Rattle.design_base.specs.Fields.{field_product, field_sum, has_field}
 use Rattle.design_base.specs.Rings.{IsField}
-use Rattle.field_tables.proofs.Listed.{listed_field}
-use Rattle.spaces.proofs.Bounds.{order_above, some_vectors}
+use Rattle.field_tables.proofs.Listed.{listed_field, order_above}
+use Rattle.spaces.proofs.Bounds.{some_vectors}
 use Rattle.spaces.proofs.Geometries.{affine_blocks, affine_design, projective_blocks, projective_design}
 use Rattle.spaces.proofs.Leads.{contains_point, is_lead, lead_one, lead_positive, length-points}
 use Rattle.spaces.proofs.PointSteps.{places-one, places-push}

@@ -3,8 +3,7 @@ use Rattle.std.proofs.Common.{List, ap, apâ‚‚, arith, length, subst, suc, sym, â
 use Rattle.design_base.specs.Blocks.{IsBibd}
 use Rattle.design_base.specs.Canonical.{canonical}
 use Rattle.design_base.specs.Fields.{field_product, field_sum}
-use Rattle.field_tables.proofs.Listed.{listed_field}
-use Rattle.spaces.proofs.Bounds.{order_above}
+use Rattle.field_tables.proofs.Listed.{listed_field, order_above}
 use Rattle.spaces.proofs.Geometries.{affine_blocks, affine_design, affine_space, projective_blocks, projective_design, projective_space}
 use Rattle.spaces.proofs.Leads.{length-points}
 use Rattle.spaces.specs.GeometryLines.{IsAffine, IsProjective, line_in}

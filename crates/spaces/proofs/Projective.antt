@@ -1,15 +1,13 @@
 -- The lines of a projective geometry: two points have one line.
-use Rattle.std.proofs.Common.{Bool, List, ap, ap₂, arith, get_or, inl, inr, length, refl, subst, suc, sym, true, zero, ℕ, ◌<◌, ◌∙◌, ◌≡◌, ◌≢◌}
+use Rattle.std.proofs.Common.{List, ap, ap₂, arith, get_or, inl, inr, length, refl, subst, suc, sym, true, zero, ℕ, ◌<◌, ◌∙◌, ◌≡◌, ◌≢◌}
 use Rattle.counting.proofs.Booleans.{bool_same, cases_eq, cases_lt, false≢true, or_cases, or_left, or_right}
 use Rattle.std.proofs.lemmas.List.Elements.{All-from_recursion, recursion_from_All}
 use Rattle.std.specs.List.{AllByRecursion}
-use Rattle.std.specs.Prelude.{filter}
-use Rattle.counting.proofs.Lists.{all_filter}
 use Rattle.counting.proofs.Ranges.{All-join_below, each_below, length-list_below}
 use Rattle.counting.specs.Sums.{join_below, list_below}
 use Rattle.design_base.proofs.Canonical.{Differs, differs_below}
 use Rattle.design_base.proofs.Cover.{holds-append, holds-none, holds_below, holds_below-from}
-use Rattle.design_base.proofs.Points.{differs_filter, each_at, holds-filter}
+use Rattle.design_base.proofs.Points.{differs_filter, holds_filter, holds_filtered}
 use Rattle.design_base.specs.Blocks.{holds}
 use Rattle.design_base.specs.Rings.{IsCommutativeRing}
 use Rattle.field_tables.proofs.AnyField.{divide, mul-zero, mul_cancel}
@@ -36,13 +34,6 @@ holds_join_below-from (suc n) x f i l h = holds-append x (join_below n f) (f n) 
   | inl s ↦ or_right _ _ (subst (λ k. holds x (f k) ≡ true) s h)
   | inr d ↦ or_left _ _ (holds_join_below-from n x f i (omega arith) h)
 ]
-
-holds_filter : (test : ℕ → Bool) (n x : ℕ) → holds x (filter test (list_below n (λ i. i))) ≡ true → (x < n) × (test x ≡ true)
-holds_filter test n x h = each_at (λ z. (z < n) × (test z ≡ true)) x (filter test (list_below n (λ i. i)))
-    (all_filter (λ z. z < n) (λ z. (z < n) × (test z ≡ true)) test (λ z l e. (l, e)) (list_below n (λ i. i)) (each_below (λ z. z < n) n (λ i. i) (λ i l. l))) h
-
-holds_filter-from : (test : ℕ → Bool) (n x : ℕ) → x < n → test x ≡ true → holds x (filter test (list_below n (λ i. i))) ≡ true
-holds_filter-from test n x l e = holds-filter test x (list_below n (λ i. i)) e ∙ holds_below-from n x (λ i. i) x l refl
 
 module _ (q v : ℕ) (add mul sum scale : ℕ → ℕ → ℕ) (space : IsSpace q v add mul sum scale) (lead : ℕ → ℕ) (l : IsLead q v mul scale lead) where
   abbrev r : IsCommutativeRing q add mul
@@ -207,7 +198,7 @@ module _ (q v : ℕ) (add mul sum scale : ℕ → ℕ → ℕ) (space : IsSpace 
         unfolding points_in
         same_points u = bool_same _ _
             (λ h. let t = holds_filter (λ k. holds (at k) plane) N u h in within_pair u t.0 (in_plane (at u) t.1))
-            (λ h. let t = pair_within u h in holds_filter-from (λ k. holds (at k) plane) N u t.0 (plane_holds (at u) t.1))
+            (λ h. let t = pair_within u h in holds_filtered (λ k. holds (at k) plane) N u t.0 ∙ plane_holds (at u) t.1)
 
     pair_size : (i j : ℕ) → length (pair i j) ≡ suc q
     unfolding pair

@@ -9,7 +9,7 @@ use std::alloc::Global;
 
 // The coefficients of an affine geometry: those whose sum is 1.
 #[tactic(auto, using(crate::proofs::CoefficientSteps::coefficient_steps))]
-pub fn affine_coefficients(alloc: Global, field: &Field) -> Result<Vec<(u16, u16)>, Memory>
+pub(crate) fn affine_coefficients(alloc: Global, field: &Field) -> Result<Vec<(u16, u16)>, Memory>
     ensures affine { IfOk result (λ coefficients. AreAffine (field_sum field.now) field.now coefficients.items) }
     ensures elements { IfOk result (λ coefficients. AreElements field.now coefficients.items) }
 {
@@ -22,7 +22,10 @@ pub fn affine_coefficients(alloc: Global, field: &Field) -> Result<Vec<(u16, u16
 
 // The coefficients of a projective geometry: those whose first nonzero number is 1.
 #[tactic(auto, using(crate::proofs::CoefficientSteps::coefficient_steps))]
-pub fn projective_coefficients(alloc: Global, field: &Field) -> Result<Vec<(u16, u16)>, Memory>
+pub(crate) fn projective_coefficients(
+    alloc: Global,
+    field: &Field,
+) -> Result<Vec<(u16, u16)>, Memory>
     ensures projective { IfOk result (λ coefficients. AreProjective field.now coefficients.items) }
     ensures elements { IfOk result (λ coefficients. AreElements field.now coefficients.items) }
 {

@@ -58,7 +58,7 @@ impl<'a> Geometry<'a> {
 
     // The affine geometry of dimension `d`.
     #[tactic(auto, using(crate::proofs::Bounds::bounds))]
-    pub fn affine(alloc: Global, field: &'a Field, d: u16) -> Result<Self, Memory>
+    pub(crate) fn affine(alloc: Global, field: &'a Field, d: u16) -> Result<Self, Memory>
         requires dimension { 1 ≤ d }
         requires in_bounds { field.now ^ d ≤ POINTS_MAX }
         ensures { IfOk result (IsAffine field.now d) }
@@ -78,7 +78,7 @@ impl<'a> Geometry<'a> {
 
     // The projective geometry of dimension `d`.
     #[tactic(auto, using(crate::proofs::Bounds::bounds))]
-    pub fn projective(alloc: Global, field: &'a Field, d: u16) -> Result<Self, Memory>
+    pub(crate) fn projective(alloc: Global, field: &'a Field, d: u16) -> Result<Self, Memory>
         requires dimension { 1 ≤ d }
         requires in_bounds { point_count field.now d ≤ POINTS_MAX }
         ensures { IfOk result (IsProjective field.now (d + 1)) }
@@ -169,7 +169,7 @@ impl Geometry<'_> {
 
     // All lines, each once, in canonical form. Two points have one line.
     #[tactic(auto, using(crate::proofs::Rising::rising_steps))]
-    pub fn lines(&self, alloc: Global) -> Result<Rows, Memory>
+    pub(crate) fn lines(&self, alloc: Global) -> Result<Rows, Memory>
         requires points { length self.now.points.items ≤ POINTS_MAX }
         requires coefficients { length self.now.coefficients.items ≤ POINTS_MAX + 1 }
         requires space { IsLinearSpace (length self.now.points.items) (length self.now.coefficients.items) (line_in self.now) }

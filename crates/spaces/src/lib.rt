@@ -18,6 +18,7 @@ use field_tables::Field;
 use geometry::Geometry;
 use incidence::Rows;
 use std::alloc::Global;
+pub use vectors::lead;
 
 /// The lines of the affine geometry of dimension `d` over a field of q elements, in canonical form: q ^ d points, and q points
 /// on each line.

@@ -63,7 +63,7 @@ fn mark_line(met: &mut [bool], line: &[u16])
 
 impl LineList {
     // No line.
-    pub fn new(alloc: Global) -> Result<Self, Memory>
+    pub(crate) fn new(alloc: Global) -> Result<Self, Memory>
         ensures { IfOk result (λ lines. lines ≡ []) }
     {
         let places = POINTS_MAX as usize * POINTS_MAX as usize;
@@ -74,7 +74,7 @@ impl LineList {
     }
 
     // Whether x and y are on a line of the list.
-    pub fn joins(&self, x: u16, y: u16) -> bool
+    pub(crate) fn joins(&self, x: u16, y: u16) -> bool
         requires first { x < POINTS_MAX }
         requires second { y < POINTS_MAX }
         ensures { result ≡ nat_lt 0 (cover self.now x y) }
@@ -83,7 +83,7 @@ impl LineList {
     }
 
     // Appends a line.
-    pub fn push(&mut self, line: &[u16]) -> Result<(), Memory>
+    pub(crate) fn push(&mut self, line: &[u16]) -> Result<(), Memory>
         requires line { All (λ y. y < POINTS_MAX) line.now }
         requires room { size_of self.old + length line.now + 1 < PACKED_MAX }
         ensures ok { OnOk result (self.new ≡ self.old ++ line.now ∷ []) }
@@ -95,7 +95,7 @@ impl LineList {
     }
 
     // The lines, in canonical form.
-    pub fn canonical(self) -> Result<Rows, Memory>
+    pub(crate) fn canonical(self) -> Result<Rows, Memory>
         ensures { IfOk result (λ rows. rows ≡ canonical_form self) }
     {
         self.rows.canonical()

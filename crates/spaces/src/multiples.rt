@@ -57,7 +57,12 @@ fn push_multiples(
 
 // The entries of t * x for each element t and each of the points x. The vectors have `n` entries.
 #[tactic(auto, using(crate::proofs::EntrySteps::entry_steps))]
-pub fn multiples(alloc: Global, field: &Field, n: u16, points: &[u16]) -> Result<Rows, Memory>
+pub(crate) fn multiples(
+    alloc: Global,
+    field: &Field,
+    n: u16,
+    points: &[u16],
+) -> Result<Rows, Memory>
     requires fits { field.now ^ n < 2 ^ 16 }
     requires order { field.now ≤ POINTS_MAX }
     requires entries { n ≤ POINTS_MAX }

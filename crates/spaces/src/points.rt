@@ -11,14 +11,14 @@ use std::alloc::Global;
 
 // The points among the vectors of `n` entries, in the order of their numbers. There are `vectors` vectors.
 #[tactic(auto, using(crate::proofs::PointSteps::point_steps))]
-pub fn points(alloc: Global, q: u16, n: u16, vectors: u16) -> Result<Vec<u16>, Memory>
+pub(crate) fn points(alloc: Global, q: u16, n: u16, vectors: u16) -> Result<Vec<u16>, Memory>
     requires order { 0 < q }
     requires all { vectors ≡ q ^ n }
     ensures { IfOk result (λ points. points.items ≡ points_of q n) }
 {
     let mut points = Vec::new(alloc);
     for x in 0..vectors {
-        if lead(q, n, x) == 1 {
+        if lead(q, n, u32::from(x)) == 1 {
             points.push(x)?;
         }
     }
@@ -33,7 +33,7 @@ fn point_of(field: &Field, n: u16, x: u16) -> u16
     ensures point { Contains (points_of field.now n) result }
     ensures multiple { (c : ℕ) × (c < field.now) × (multiple (field_product field.now) field.now n c x ≡ result) }
 {
-    let scale = field.inv(lead(field.order(), n, x));
+    let scale = field.inv(lead(field.order(), n, u32::from(x)));
     combination(field, n, scale, x, 0, 0)
 }
 
@@ -62,7 +62,7 @@ fn place_of(field: &Field, n: u16, points: &[u16], x: u16) -> u16
 
 // The places of the points of the vectors of `n` entries; the vector 0 has the place 0. There are `vectors` vectors.
 #[tactic(auto, using(crate::proofs::PointSteps::point_steps))]
-pub fn places(
+pub(crate) fn places(
     alloc: Global,
     field: &Field,
     n: u16,

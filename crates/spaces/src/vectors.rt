@@ -11,7 +11,7 @@ use field_tables::Field;
 
 // The vector a * x + b * y.
 #[tactic(auto)]
-pub fn combination(field: &Field, n: u16, a: u16, x: u16, b: u16, y: u16) -> u16
+pub(crate) fn combination(field: &Field, n: u16, a: u16, x: u16, b: u16, y: u16) -> u16
     requires coefficients { (a < field.now) × (b < field.now) }
     requires fits { field.now ^ n < 2 ^ 16 }
     ensures value { result ≡ combination_of (field_sum field.now) (field_product field.now) field.now n a x b y }
@@ -25,25 +25,30 @@ pub fn combination(field: &Field, n: u16, a: u16, x: u16, b: u16, y: u16) -> u16
     first + q * combination(field, n - 1, a, x / q, b, y / q)
 }
 
-// The first entry that is not 0, and 0 where there is none.
+/// The first entry that is not 0 of a vector of `n` entries, and 0 where there is none. The vector is the number `x`, whose
+/// digits to the base `q` are its entries, the first one lowest.
+///
+/// `q` is at least 1. What `x` is beside its `n` lowest digits does not matter.
 #[tactic(auto, using(crate::proofs::LeadSteps::lead_steps))]
-pub fn lead(q: u16, n: u16, x: u16) -> u16
+pub fn lead(q: u16, n: u16, x: u32) -> u16
     requires { 0 < q }
     ensures value { result ≡ lead_of q n x }
     ensures below { result < q }
 {
     if n == 0 {
-        0
-    } else if x % q != 0 {
-        x % q
+        return 0;
+    }
+    let first = (x % u32::from(q)) as u16;
+    if first != 0 {
+        first
     } else {
-        lead(q, n - 1, x / q)
+        lead(q, n - 1, x / u32::from(q))
     }
 }
 
 // The entries of the vector `x`, in place of what the list holds.
 #[tactic(auto, using(crate::proofs::EntrySteps::entry_steps))]
-pub fn write_entries(entries: &mut Vec<u16>, q: u16, n: u16, x: u16) -> Result<(), Memory>
+pub(crate) fn write_entries(entries: &mut Vec<u16>, q: u16, n: u16, x: u16) -> Result<(), Memory>
     requires { 0 < q }
     ensures { OnOk result (entries.new.items ≡ digits q n x) }
 {
@@ -57,7 +62,7 @@ pub fn write_entries(entries: &mut Vec<u16>, q: u16, n: u16, x: u16) -> Result<(
 }
 
 // The vector x + y, from the entries of both.
-pub fn sum_of_entries(field: &Field, x: &[u16], y: &[u16]) -> u16
+pub(crate) fn sum_of_entries(field: &Field, x: &[u16], y: &[u16]) -> u16
     requires first { All (λ a. a < field.now) x.now }
     requires second { All (λ a. a < field.now) y.now }
     requires size { length x.now ≡ length y.now }

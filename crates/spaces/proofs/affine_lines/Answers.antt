@@ -1,6 +1,7 @@
 use Rattle.std.proofs.Common.{arith, subst, sym, ◌^◌, ◌∙◌}
 use Rattle.design_base.specs.Blocks.{IsBibd}
-use Rattle.spaces.proofs.Bounds.{order_above, order_below}
+use Rattle.field_tables.proofs.Listed.{order_above}
+use Rattle.spaces.proofs.Bounds.{order_below}
 use Rattle.spaces.proofs.ListedLines.{affine_is_space, affine_is_design, affine_listed}
 use Rattle.spaces.specs.GeometryLines.{IsAffine}
 use Rattle.spaces.proofs.affine_lines.Goals as goal

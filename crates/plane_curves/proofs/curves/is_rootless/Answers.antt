@@ -3,7 +3,7 @@ use Rattle.counting.proofs.Booleans.{eq-eqb, ne_eqb}
 use Rattle.counting.proofs.Upward.{each_upward_here, each_upward_later, upward-none}
 use Rattle.counting.specs.Search.{each_passes}
 use Rattle.design_base.specs.Fields.{field_product, field_sum}
-use Rattle.spaces.proofs.Bounds.{order_above}
+use Rattle.field_tables.proofs.Listed.{order_above}
 use Rattle.plane_curves.specs.Curves.{is_rootless}
 use Rattle.plane_curves.proofs.CurveSteps.{upward_all}
 use Rattle.plane_curves.proofs.curves.is_rootless.Goals as goal

@@ -3,7 +3,7 @@ use Rattle.std.specs.Prelude.{unwrap_or}
 use Rattle.counting.proofs.Upward.{first_upward_here, first_upward_later, upward-none}
 use Rattle.counting.specs.Search.{first_in}
 use Rattle.design_base.specs.Fields.{field_product, field_sum}
-use Rattle.spaces.proofs.Bounds.{order_above}
+use Rattle.field_tables.proofs.Listed.{order_above}
 use Rattle.plane_curves.specs.Curves.{is_rootless, least_rootless}
 use Rattle.plane_curves.proofs.CurveSteps.{upward_all}
 use Rattle.plane_curves.proofs.curves.least_rootless.Goals as goal

@@ -1,7 +1,6 @@
 use Rattle.std.proofs.Common.{arith, ◌<◌, ℕ, ◌+◌, ◌*◌, ◌^◌, sym, subst}
 use Rattle.design_base.specs.Fields.{field_product, field_sum}
-use Rattle.field_tables.proofs.Listed.{listed_field}
-use Rattle.spaces.proofs.Bounds.{order_above}
+use Rattle.field_tables.proofs.Listed.{listed_field, order_above}
 use Rattle.spaces.proofs.VectorSpaces.{combination-none, combination-pred, power-pred, vector_below-pred}
 use Rattle.spaces.proofs.vectors.+combination.Goals as goal
 

@@ -1,5 +1,5 @@
 use Rattle.std.proofs.Common.{arith, length, subst, sym, ◌*◌, ◌+◌, ◌<◌, ◌^◌}
-use Rattle.spaces.proofs.Bounds.{order_above}
+use Rattle.field_tables.proofs.Listed.{order_above}
 use Rattle.spaces.proofs.EntrySteps.{sum_small}
 use Rattle.spaces.proofs.vectors.sum_of_entries.Goals as goal
 

@@ -1,5 +1,5 @@
 use Rattle.std.proofs.Common.{ap, arith, length, ◌+◌}
-use Rattle.spaces.proofs.Bounds.{order_above}
+use Rattle.field_tables.proofs.Listed.{order_above}
 use Rattle.spaces.proofs.Leads.{length-points}
 use Rattle.spaces.specs.Points.{points}
 use Rattle.spaces.proofs.geometry.Geometry.projective.Goals as goal
