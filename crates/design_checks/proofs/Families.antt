@@ -1,16 +1,16 @@
 -- Differences from the covers of the pairs: d is the difference of x and x + d wherever both stand together.
 use Rattle.std.proofs.Common.{List, [], add-one, ap, arith, cond, get_or, length, refl, sym, ℕ, ◌&&◌, ◌*◌, ◌+◌, ◌<◌, ◌==◌, ◌∙◌, ◌∷◌, ◌≡◌, ◌≢◌, ◌≤◌}
-use Rattle.counting.proofs.Booleans.{eq-eqb, eqb-true, eqb-turn}
+use Rattle.counting.proofs.Booleans.{eqb-turn}
 use Rattle.std.proofs.lemmas.List.Elements.{All-weaker, recursion_from_All}
 use Rattle.std.proofs.lemmas.List.Sums.{sum_by-cons, sum_by-le}
 use Rattle.std.specs.List.{AllByRecursion, count_by, sum_by}
 use Rattle.std.specs.Prelude.{All}
-use Rattle.counting.proofs.Counts.{one-false, one-most, one-true, sum_below-at, sum_below-same}
-use Rattle.counting.proofs.Lists.{each-weaker, each_all, one-and, sum_by-agree, sum_by-mul, sum_by-same, sum_by-sum_below}
+use Rattle.counting.proofs.Counts.{one-most, sum_below-same}
+use Rattle.counting.proofs.Lists.{each_all, one-and, sum_by-agree, sum_by-same, sum_by-sum_below}
 use Rattle.counting.specs.Sums.{one, sum_below}
 use Rattle.design_base.proofs.Canonical.{Rises, differs_from_rises, rises_from_increasing}
 use Rattle.design_base.proofs.Cover.{cover-is}
-use Rattle.design_base.proofs.Points.{one-holds}
+use Rattle.design_base.proofs.Points.{one-holds, sum_set}
 use Rattle.design_base.specs.Blocks.{cover, differences, holds}
 use Rattle.design_base.specs.Meets.{GroupAt, group_add}
 use Rattle.design_base.specs.declared.query.Group.{Group}
@@ -24,21 +24,6 @@ pub sum_more : (n : ℕ) (f : ℕ → ℕ) → sum_below (n + 1) f ≡ sum_below
 unfolding sum_below
 sum_more n f = rw add-one refl
 
--- the term of z alone
-alone : (v z : ℕ) (f : ℕ → ℕ) → z < v → sum_below v (λ x. f x * one (z == x)) ≡ f z
-alone v z f l =
-    sum_below-at v z (λ x. f x * one (z == x)) l (λ i m ne. ap (λ n. f i * n) (one-false (z == i) (λ t. ne (sym (eqb-true z i t)))) ∙ omega arith)
-    ∙ ap (λ n. f z * n) (one-true (z == z) (eq-eqb z z refl))
-    ∙ omega arith
-
--- a sum over the points of a row, as one over all points
-sum_points : (v : ℕ) (f : ℕ → ℕ) (row : List ℕ) → Rises row → AllByRecursion (λ x. x < v) row → sum_by f row ≡ sum_below v (λ x. f x * one (holds x row))
-sum_points v f row r below =
-    sum_by-same f (λ z. sum_below v (λ x. f x * one (z == x))) row (each-weaker (λ z. z < v) _ (λ z l. sym (alone v z f l)) row below)
-    ∙ sum_by-sum_below (λ x z. f x * one (z == x)) v row
-    ∙ sum_below-same v (λ x. sum_by (λ z. f x * one (z == x)) row) (λ x. f x * one (holds x row))
-    (λ x l. sum_by-mul (f x) (λ z. one (z == x)) row ∙ ap (λ n. f x * n) (sym (one-holds x row (differs_from_rises row r))))
-
 -- y stands once or not at all in a row
 times_held : (y : ℕ) (row : List ℕ) → Rises row → count_by (λ z. y == z) row ≡ one (holds y row)
 unfolding one
@@ -47,7 +32,7 @@ times_held y row r = sum_by-same (λ z. cond (y == z) 1 0) (λ z. cond (z == y) 
 module _ (v : ℕ) (add : ℕ → ℕ → ℕ) (d : ℕ) where
   row_differences : (row : List ℕ) → IsRowOf v row → sum_by (λ x. count_by (λ y. add x d == y) row) row ≡ sum_below v (λ x. one (holds x row && holds (add x d) row))
   row_differences row is = let r = rises_from_increasing row is.rises in
-      sum_points v (λ x. count_by (λ y. add x d == y) row) row r (recursion_from_All (λ x. x < v) row is.below)
+      sum_set v (λ x. count_by (λ y. add x d == y) row) row (differs_from_rises row r) (recursion_from_All (λ x. x < v) row is.below)
       ∙ sum_below-same v _ (λ x. one (holds x row && holds (add x d) row))
       (λ x l. ap (λ n. n * one (holds x row)) (times_held (add x d) row r) ∙ omega (arith, one-and (holds x row) (holds (add x d) row)))
 
