@@ -1,6 +1,8 @@
 -- The steps of the loops that write rows and blocks: what there is before the first, and what one more adds.
 use Rattle.std.proofs.Common.{List, [], ap, ap₂, arith, get_or, length, map, refl, slice_set, subst, sym, take, ℕ, ◌*◌, ◌++◌, ◌+◌, ◌-◌, ◌<◌, ◌∙◌, ◌∷◌, ◌≡◌, ◌≤◌}
 use Rattle.std.proofs.lemmas.List.{append-nil, append_assoc, length-map, map-append, take_all, take_more_set}
+use Rattle.std.specs.Prelude.{Err, Ok, OnErr, Result}
+use Rattle.std.proofs.Math.Seq.{take-append-add, take-append_seam}
 use Rattle.counting.proofs.Counts.{join_below_more, join_below_none}
 use Rattle.counting.specs.Sums.{join_below, list_below}
 use Rattle.design_base.specs.Arrays.{blocks_of_rows}
@@ -63,6 +65,17 @@ translates_below_none n R = join_below_none _
 pub blocks_of_translates_more : (k m n h : ℕ) (R : List (List ℕ)) → blocks_of_rows k m (translates_below n (h + 1) R) ≡ blocks_of_rows k m (translates_below n h R) ++ blocks_of_rows k m (translate n h R)
 unfolding translates_below
 blocks_of_translates_more k m n h R = ap (blocks_of_rows k m) (join_below_more h _) ∙ blocks_of_rows_append k m _ (translate n h R)
+
+-- a list that starts as another one does and is no shorter: that one, and the first of what stands behind it
+pub started : {X : Type 0} (xs ys old more : List X) → xs ++ ys ≡ old ++ more → length old ≤ length xs → xs ≡ old ++ take (length xs - length old) more
+started xs ys old more e l =
+    sym (take-append_seam xs ys) ∙ ap (take (length xs)) e
+    ∙ ap (λ n. take n (old ++ more)) (let whole : length xs ≡ length old + (length xs - length old) = omega arith in whole) ∙ take-append-add old more (length xs - length old)
+
+pub started_failed : {T E X : Type 0} (r : Result T E) (new xs ys old more : List X) → new ≡ xs → xs ++ ys ≡ old ++ more → length old ≤ length xs →
+    OnErr r (new ≡ old ++ take (length new - length old) more)
+started_failed (Ok x) new xs ys old more kept e l = tt
+started_failed (Err x) new xs ys old more kept e l = subst (λ now. now ≡ old ++ take (length now - length old) more) (sym kept) (started xs ys old more e l)
 
 -- the raised rows of a row and of further ones
 pub raised_no_rows : (c : ℕ) → raised c [] ≡ []

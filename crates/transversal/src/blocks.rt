@@ -1,5 +1,5 @@
 // Lists of blocks that grow.
-ghost use Rattle.std.specs.Prelude.{◌≡◌, ◌+◌, ◌*◌, ◌<◌, ◌≤◌, ◌++◌, [], ◌∷◌, All, IfOk, OnOk, length, take};
+ghost use Rattle.std.specs.Prelude.{◌≡◌, ◌+◌, ◌-◌, ◌*◌, ◌<◌, ◌≤◌, ◌++◌, [], ◌∷◌, All, IfOk, OnErr, OnOk, length, take};
 ghost use Rattle.design_base.specs.Arrays.{IsRow, blocks_of_rows};
 ghost use Rattle.incidence.specs.Packed.{size_of};
 ghost use Rattle.transversal.specs.Constructions.{raised};
@@ -41,7 +41,7 @@ fn write_raised(block: &mut [u16], k: u16, n: u16, c: u16, h: u16, row: &[u16])
 /// Appends the blocks of rows of `k` symbols below `h`, with `c` added to each symbol.
 ///
 /// `k` is at most `TD_K_MAX`, `n` at most `TD_N_MAX`, and `c + h` at most `n`. After `Memory`, which comes only for want of
-/// memory, the list holds some of the blocks.
+/// memory, the list holds what it held and behind it the first ones of the blocks.
 #[tactic(auto, using(crate::proofs::Steps::steps))]
 pub fn push_raised(
     rows: &mut Rows,
@@ -56,7 +56,8 @@ pub fn push_raised(
     requires raised_points { c + h ≤ n }
     requires rows { All (IsRow k h) array.now }
     requires room { size_of rows.old + (k + 1) * length array.now < PACKED_MAX }
-    ensures { OnOk result (rows.new ≡ rows.old ++ blocks_of_rows k n (raised c array.now)) }
+    ensures all { OnOk result (rows.new ≡ rows.old ++ blocks_of_rows k n (raised c array.now)) }
+    ensures some { OnErr result (rows.new ≡ rows.old ++ take (length rows.new - length rows.old) (blocks_of_rows k n (raised c array.now))) }
 {
     let mut block = [0; TD_K_MAX as usize];
     for row in array.iter() {

@@ -1,9 +1,9 @@
-use Rattle.std.proofs.Common.{[], ap, arith, ◌*◌, ◌+◌, ◌∙◌, ◌∷◌}
-use Rattle.std.proofs.lemmas.List.{length-take-le}
-use Rattle.design_base.specs.Arrays.{IsRow}
+use Rattle.std.proofs.Common.{[], ap, arith, length, take, ◌*◌, ◌+◌, ◌∙◌, ◌∷◌}
+use Rattle.std.proofs.lemmas.List.{length-append, length-take-le}
+use Rattle.design_base.specs.Arrays.{IsRow, blocks_of_rows}
 use Rattle.counting.proofs.Lists.{left_after}
 use Rattle.incidence.proofs.RowsAndBlocks.{room_next}
-use Rattle.transversal.proofs.Steps.{length-raised, steps}
+use Rattle.transversal.proofs.Steps.{length-raised, started_failed, steps}
 use Rattle.transversal.proofs.blocks.push_raised.Goals as goal
 use Rattle.transversal.specs.Constructions.{raised}
 
@@ -20,6 +20,12 @@ push_row-requires c = omega (
 pub loop-row-preserved : goal.loop-row-preserved
 loop-row-preserved c = record {
   blocks = grind (arith, steps);
+  grown = omega (arith, c.loop-row.invariant.grown, ap length c.in_ok-push_row.ensures.ok, length-append c.loop-row.rows (take c.args.k c.write_raised.new.block ∷ []));
   block = c.write_raised.ensures.len ∙ c.loop-row.invariant.block;
   left = left_after (IsRow c.args.k c.args.h) c.loop-row.row-iterator c.in-Some.row.now c.next.new.self (grind arith) c.loop-row.invariant.left;
 }
+
+pub returns-in_err-push_row-clause-some : goal.returns-in_err-push_row-clause-some
+returns-in_err-push_row-clause-some c = started_failed c.from_residual.result c.push_row.new.self c.loop-row.rows
+    (blocks_of_rows c.args.k c.args.n (raised c.args.c c.loop-row.row-iterator)) c.args.rows.now (blocks_of_rows c.args.k c.args.n (raised c.args.c c.args.array.now))
+    c.in_err-push_row.ensures.err c.loop-row.invariant.blocks c.loop-row.invariant.grown
