@@ -11,7 +11,7 @@ use Rattle.counting.proofs.Counts.{one-false, one-true}
 use Rattle.counting.proofs.Lists.{All-flat_map_of, All-map_of, sum_by-agree, sum_by-flat_map, each_all, sum_by-map, sum_by-none, sum_by-same}
 use Rattle.counting.proofs.Ranges.{get_or-list_below, length-list_below}
 use Rattle.counting.specs.Sums.{list_below, one}
-use Rattle.design_base.proofs.Rows.{agree-is, agree-turn, oa_from_pairs}
+use Rattle.design_base.proofs.Rows.{agree-is, agree-turn, oa_from_pairs, symbol_below}
 use Rattle.design_base.specs.Arrays.{IsOa, IsRow, agree}
 use Rattle.transversal.proofs.Square.{row_of_entries}
 use Rattle.wilson.proofs.HoledArray.{IsHoled}
@@ -90,7 +90,7 @@ agree_filled k m infinite a R i j p q l h = agree-is (filled_rows k m infinite a
 module _ (k K m t n : ℕ) (size : ℕ → ℕ) (far : ℕ → ℕ → ℕ) (pos : 0 < m) (ends : AreInfinite k K m t n size far) where
   module _ (r : List ℕ) (row : IsRow K t r) (P : List (List ℕ)) (piece : IsPiece k K m size far r P) where
     symbol : (c : ℕ) → c < K → get_or r c 0 < t
-    symbol c l = row.below c 0 (omega (arith, row.size))
+    symbol = symbol_below K t r row
 
     -- an infinite point is never read from a finite symbol
     far_read : (j p c v s : ℕ) → j < k → k ≤ c → c < K → v < size c → far c v ≡ p → s < m + length piece.ends → filled m piece.ends (get_or r j 0) s ≡ p → (m ≤ s) × (piece.group s ≡ c) × (get_or r c 0 ≡ v)

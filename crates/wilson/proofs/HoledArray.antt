@@ -10,7 +10,7 @@ use Rattle.counting.proofs.Counts.{one-false, one-true}
 use Rattle.counting.proofs.Lists.{All-map_of, sum_by-agree, sum_by-map}
 use Rattle.counting.proofs.Ranges.{get_or-list_below, length-list_below}
 use Rattle.counting.specs.Sums.{list_below, one}
-use Rattle.design_base.proofs.Rows.{agree-is}
+use Rattle.design_base.proofs.Rows.{agree-is, symbol_below}
 use Rattle.design_base.specs.Arrays.{IsOa, IsRow, agree}
 use Rattle.transversal.proofs.Square.{row_of_entries}
 use Rattle.wilson.proofs.Apart.{first_apart-below, first_apart-differs}
@@ -51,13 +51,10 @@ module _ (k n : ℕ) (to from : ℕ → ℕ → ℕ) (renaming : IsRenaming k n 
   unfolding renamed
   entry r j l = get_or-list_below k (λ j. to j (get_or r j 0)) j 0 l
 
-  symbol : (r : List ℕ) → IsRow k n r → (j : ℕ) → j < k → get_or r j 0 < n
-  symbol r v j l = v.below j 0 (omega (arith, v.size))
-
   renamed_rows : (R : List (List ℕ)) → All (IsRow k n) R → All (IsRow k n) (map (λ r. list_below k (λ j. to j (get_or r j 0))) R)
   unfolding renamed
   renamed_rows R rows = All-map_of (IsRow k n) (IsRow k n) renamed R rows (λ r v. row_of_entries k n (renamed r) (length-list_below k (λ j. to j (get_or r j 0))) (λ j l.
-      omega (arith, entry r j l, renaming.small j (get_or r j 0) l (symbol r v j l))))
+      omega (arith, entry r j l, renaming.small j (get_or r j 0) l (symbol_below k n r v j l))))
 
   -- each pair stands in one row as before
   renamed_pairs : (R : List (List ℕ)) → IsOa R k n → (i j a b : ℕ) → i < j → j < k → a < n → b < n → agree (map (λ r. list_below k (λ j. to j (get_or r j 0))) R) i j a b ≡ 1
@@ -66,7 +63,7 @@ module _ (k n : ℕ) (to from : ℕ → ℕ → ℕ) (renaming : IsRenaming k n 
       ∙ sum_by-map (λ r. one ((get_or r i 0 == a) && (get_or r j 0 == b))) renamed R
       ∙ sum_by-agree (IsRow k n) _ (λ r. one ((get_or r i 0 == from i a) && (get_or r j 0 == from j b))) R oa.rows (λ r v.
       ap₂ (λ x y. one ((x == a) && (y == b))) (entry r i (omega arith)) (entry r j h)
-      ∙ ap₂ (λ x y. one (x && y)) (renaming.test i (get_or r i 0) a (omega arith) (symbol r v i (omega arith)) la) (renaming.test j (get_or r j 0) b h (symbol r v j h) lb))
+      ∙ ap₂ (λ x y. one (x && y)) (renaming.test i (get_or r i 0) a (omega arith) (symbol_below k n r v i (omega arith)) la) (renaming.test j (get_or r j 0) b h (symbol_below k n r v j h) lb))
       ∙ sym (agree-is R i j (from i a) (from j b))
       ∙ oa.pairs i j (from i a) (from j b) l h (renaming.back i a (omega arith) la) (renaming.back j b h lb)
 
@@ -98,7 +95,7 @@ renumbered_first m f = grind (arith, nat_tests)
 
 module _ (k m : ℕ) (f : List ℕ) (R : List (List ℕ)) (oa : IsOa (f ∷ R) k (m + 1)) where
   first_symbol : (j : ℕ) → j < k → get_or f j 0 < m + 1
-  first_symbol j l = let v : IsRow k (m + 1) f = oa.rows 0 [] (omega arith) in v.below j 0 (omega (arith, v.size))
+  first_symbol = symbol_below k (m + 1) f (oa.rows 0 [] (omega arith))
 
   renaming : IsRenaming k (m + 1) (λ j s. renumbered m (get_or f j 0) s) (λ j a. symbol_back m (get_or f j 0) a)
   renaming = record {
@@ -160,14 +157,11 @@ renumbered_twice_second m f e ne = grind (arith, nat_tests)
 
 -- the row at place i of R is the second one
 module _ (k m : ℕ) (f : List ℕ) (R : List (List ℕ)) (i : ℕ) (within : i < length R) (oa : IsOa (f ∷ R) k (m + 2)) (apart : (j : ℕ) → j < k → get_or f j 0 ≢ get_or (get_or R i []) j 0) where
-  symbol_below : (r : List ℕ) → IsRow k (m + 2) r → (j : ℕ) → j < k → get_or r j 0 < m + 2
-  symbol_below r v j l = v.below j 0 (omega (arith, v.size))
-
   first_below : (j : ℕ) → j < k → get_or f j 0 < m + 2
-  first_below j l = symbol_below f (oa.rows 0 [] (omega arith)) j l
+  first_below = symbol_below k (m + 2) f (oa.rows 0 [] (omega arith))
 
   second_below : (j : ℕ) → j < k → get_or (get_or R i []) j 0 < m + 2
-  second_below j l = symbol_below (get_or R i []) (oa.rows (suc i) [] (omega arith)) j l
+  second_below = symbol_below k (m + 2) (get_or R i []) (oa.rows (suc i) [] (omega arith))
 
   renaming_twice : IsRenaming k (m + 2) (λ j s. renumbered_twice m (get_or f j 0) (get_or (get_or R i []) j 0) s) (λ j a. symbol_back_twice m (get_or f j 0) (get_or (get_or R i []) j 0) a)
   renaming_twice = record {

@@ -32,7 +32,7 @@ fn first_disjoint(block: &[u16], rows: &Rows) -> Option<usize>
 /// The least place, from 0, of a row that shares no point with the first row, or `None` where there is none.
 ///
 /// There is a row. For a transversal design with at least two points in a group, and with no more groups than points in a
-/// group, the answer is never `None`.
+/// group, the answer is never `None`: of its n * n - 1 other blocks, only k * (n - 1) share a point with the first one.
 pub fn disjoint_from_first(rows: &Rows) -> Option<usize>
     requires { 0 < length rows.now }
     ensures value { result ≡ place_of_disjoint rows.now }

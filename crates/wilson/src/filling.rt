@@ -105,7 +105,7 @@ fn push_fill_one(
 
 // Appends the blocks for all master rows with column `k` truncated to `u` symbols.
 #[tactic(auto, using(crate::proofs::Steps::steps))]
-pub fn push_fills_one(
+pub(crate) fn push_fills_one(
     rows: &mut Rows,
     k: u16,
     m: u16,
@@ -170,7 +170,7 @@ fn push_fill_two(
 
 // Appends the blocks for all master rows with column `k` truncated to `u` symbols and column `k + 1` to `w`.
 #[tactic(auto, using(crate::proofs::Steps::steps))]
-pub fn push_fills_two(
+pub(crate) fn push_fills_two(
     rows: &mut Rows,
     k: u16,
     m: u16,

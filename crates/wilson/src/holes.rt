@@ -59,7 +59,7 @@ fn holed(alloc: Global, k: u16, m: u16, array: &Rows) -> Result<Rows, Memory>
 }
 
 // The array of a transversal design with groups of `m + 1` points, without its first row, whose symbols become `m`.
-pub fn holed_of_td(alloc: Global, k: u16, m: u16, td: &Rows) -> Result<Rows, Memory>
+pub(crate) fn holed_of_td(alloc: Global, k: u16, m: u16, td: &Rows) -> Result<Rows, Memory>
     requires two_groups { 2 ≤ k }
     requires groups { k ≤ TD_K_MAX }
     requires points { m + 1 ≤ TD_N_MAX }
@@ -157,7 +157,7 @@ fn holed_twice(alloc: Global, k: u16, m: u16, e: usize, array: &Rows) -> Result<
 
 // The array of a transversal design with groups of `m + 2` points, without its first row, whose symbols become `m`, and
 // without the first one that differs from it in every column, whose symbols become `m + 1`.
-pub fn holed_twice_of_td(alloc: Global, k: u16, m: u16, td: &Rows) -> Result<Rows, Memory>
+pub(crate) fn holed_twice_of_td(alloc: Global, k: u16, m: u16, td: &Rows) -> Result<Rows, Memory>
     requires two_groups { 2 ≤ k }
     requires groups { k ≤ TD_K_MAX }
     requires few_groups { k ≤ m + 2 }
