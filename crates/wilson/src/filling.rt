@@ -7,6 +7,24 @@ ghost use Rattle.wilson.specs.Truncations.{fill_one, fill_two, filled as filled_
 use design_base::{Memory, PACKED_MAX, TD_K_MAX, TD_N_MAX};
 use incidence::{Rows, push_block};
 
+// The numbers of a construction with one truncated group: the ingredients have groups of `m` points, the master has groups of
+// `t` points, and its last group keeps `u` of them.
+#[derive(Clone, Copy)]
+pub(crate) struct OneTruncation {
+    pub(crate) m: u16,
+    pub(crate) t: u16,
+    pub(crate) u: u16,
+}
+
+// The same with two truncated groups, of which the first keeps `u` points and the second `w`.
+#[derive(Clone, Copy)]
+pub(crate) struct TwoTruncations {
+    pub(crate) m: u16,
+    pub(crate) t: u16,
+    pub(crate) u: u16,
+    pub(crate) w: u16,
+}
+
 // A symbol `s` below `m` gives the point `x * m + s`, and the symbols from `m` on give the infinite points in their order.
 #[tactic(auto, unfolding(crate::specs::Truncations::filled))]
 fn filled(m: u16, infinite: &[u16], x: u16, s: u16) -> u16
@@ -79,27 +97,25 @@ fn push_filled(
 fn push_fill_one(
     rows: &mut Rows,
     k: u16,
-    m: u16,
-    t: u16,
-    u: u16,
+    cut: OneTruncation,
     small: &Rows,
     large: &Rows,
     master: &[u16],
 ) -> Result<(), Memory>
     requires groups { k ≤ TD_K_MAX }
-    requires points { m * t + u ≤ TD_N_MAX }
-    requires small_rows { All (IsRow k m) small.now }
-    requires large_rows { All (IsRow k (m + 1)) large.now }
-    requires master_row { IsRow (k + 1) t master.now }
-    requires room { size_of rows.old + (k + 1) * length (fill_one k m t u small.now large.now master.now) < PACKED_MAX }
-    ensures { OnOk result (rows.new ≡ rows.old ++ blocks_of_rows k (m * t + u) (fill_one k m t u small.now large.now master.now)) }
+    requires points { cut.m * cut.t + cut.u ≤ TD_N_MAX }
+    requires small_rows { All (IsRow k cut.m) small.now }
+    requires large_rows { All (IsRow k (cut.m + 1)) large.now }
+    requires master_row { IsRow (k + 1) cut.t master.now }
+    requires room { size_of rows.old + (k + 1) * length (fill_one k cut.m cut.t cut.u small.now large.now master.now) < PACKED_MAX }
+    ensures { OnOk result (rows.new ≡ rows.old ++ blocks_of_rows k (cut.m * cut.t + cut.u) (fill_one k cut.m cut.t cut.u small.now large.now master.now)) }
 {
-    let n = m * t + u;
+    let n = cut.m * cut.t + cut.u;
     let y = master[usize::from(k)];
-    if y < u {
-        push_filled(rows, k, n, m, &[m * t + y], master, large)
+    if y < cut.u {
+        push_filled(rows, k, n, cut.m, &[cut.m * cut.t + y], master, large)
     } else {
-        push_filled(rows, k, n, m, &[], master, small)
+        push_filled(rows, k, n, cut.m, &[], master, small)
     }
 }
 
@@ -108,23 +124,21 @@ fn push_fill_one(
 pub(crate) fn push_fills_one(
     rows: &mut Rows,
     k: u16,
-    m: u16,
-    t: u16,
-    u: u16,
+    cut: OneTruncation,
     small: &Rows,
     large: &Rows,
     master: &Rows,
 ) -> Result<(), Memory>
     requires groups { k ≤ TD_K_MAX }
-    requires points { m * t + u ≤ TD_N_MAX }
-    requires small_rows { All (IsRow k m) small.now }
-    requires large_rows { All (IsRow k (m + 1)) large.now }
-    requires master_rows { All (IsRow (k + 1) t) master.now }
-    requires room { size_of rows.old + (k + 1) * length (flat_map (fill_one k m t u small.now large.now) master.now) < PACKED_MAX }
-    ensures { OnOk result (rows.new ≡ rows.old ++ blocks_of_rows k (m * t + u) (flat_map (fill_one k m t u small.now large.now) master.now)) }
+    requires points { cut.m * cut.t + cut.u ≤ TD_N_MAX }
+    requires small_rows { All (IsRow k cut.m) small.now }
+    requires large_rows { All (IsRow k (cut.m + 1)) large.now }
+    requires master_rows { All (IsRow (k + 1) cut.t) master.now }
+    requires room { size_of rows.old + (k + 1) * length (flat_map (fill_one k cut.m cut.t cut.u small.now large.now) master.now) < PACKED_MAX }
+    ensures { OnOk result (rows.new ≡ rows.old ++ blocks_of_rows k (cut.m * cut.t + cut.u) (flat_map (fill_one k cut.m cut.t cut.u small.now large.now) master.now)) }
 {
     for row in master.iter() {
-        push_fill_one(rows, k, m, t, u, small, large, row)?;
+        push_fill_one(rows, k, cut, small, large, row)?;
     }
     Ok(())
 }
@@ -134,37 +148,50 @@ pub(crate) fn push_fills_one(
 fn push_fill_two(
     rows: &mut Rows,
     k: u16,
-    m: u16,
-    t: u16,
-    u: u16,
-    w: u16,
+    cut: TwoTruncations,
     small: &Rows,
     large: &Rows,
     larger: &Rows,
     master: &[u16],
 ) -> Result<(), Memory>
     requires groups { k ≤ TD_K_MAX }
-    requires points { m * t + u + w ≤ TD_N_MAX }
-    requires small_rows { All (IsRow k m) small.now }
-    requires large_rows { All (IsRow k (m + 1)) large.now }
-    requires larger_rows { All (IsRow k (m + 2)) larger.now }
-    requires master_row { IsRow (k + 2) t master.now }
-    requires room { size_of rows.old + (k + 1) * length (fill_two k m t u w small.now large.now larger.now master.now) < PACKED_MAX }
-    ensures { OnOk result (rows.new ≡ rows.old ++ blocks_of_rows k (m * t + u + w) (fill_two k m t u w small.now large.now larger.now master.now)) }
+    requires points { cut.m * cut.t + cut.u + cut.w ≤ TD_N_MAX }
+    requires small_rows { All (IsRow k cut.m) small.now }
+    requires large_rows { All (IsRow k (cut.m + 1)) large.now }
+    requires larger_rows { All (IsRow k (cut.m + 2)) larger.now }
+    requires master_row { IsRow (k + 2) cut.t master.now }
+    requires room { size_of rows.old + (k + 1) * length (fill_two k cut.m cut.t cut.u cut.w small.now large.now larger.now master.now) < PACKED_MAX }
+    ensures { OnOk result (rows.new ≡ rows.old ++ blocks_of_rows k (cut.m * cut.t + cut.u + cut.w) (fill_two k cut.m cut.t cut.u cut.w small.now large.now larger.now master.now)) }
 {
-    let n = m * t + u + w;
+    let n = cut.m * cut.t + cut.u + cut.w;
     let y = master[usize::from(k)];
     let z = master[usize::from(k) + 1];
-    if y < u {
-        if z < w {
-            push_filled(rows, k, n, m, &[m * t + y, m * t + u + z], master, larger)
+    if y < cut.u {
+        if z < cut.w {
+            push_filled(
+                rows,
+                k,
+                n,
+                cut.m,
+                &[cut.m * cut.t + y, cut.m * cut.t + cut.u + z],
+                master,
+                larger,
+            )
         } else {
-            push_filled(rows, k, n, m, &[m * t + y], master, large)
+            push_filled(rows, k, n, cut.m, &[cut.m * cut.t + y], master, large)
         }
-    } else if z < w {
-        push_filled(rows, k, n, m, &[m * t + u + z], master, large)
+    } else if z < cut.w {
+        push_filled(
+            rows,
+            k,
+            n,
+            cut.m,
+            &[cut.m * cut.t + cut.u + z],
+            master,
+            large,
+        )
     } else {
-        push_filled(rows, k, n, m, &[], master, small)
+        push_filled(rows, k, n, cut.m, &[], master, small)
     }
 }
 
@@ -173,26 +200,23 @@ fn push_fill_two(
 pub(crate) fn push_fills_two(
     rows: &mut Rows,
     k: u16,
-    m: u16,
-    t: u16,
-    u: u16,
-    w: u16,
+    cut: TwoTruncations,
     small: &Rows,
     large: &Rows,
     larger: &Rows,
     master: &Rows,
 ) -> Result<(), Memory>
     requires groups { k ≤ TD_K_MAX }
-    requires points { m * t + u + w ≤ TD_N_MAX }
-    requires small_rows { All (IsRow k m) small.now }
-    requires large_rows { All (IsRow k (m + 1)) large.now }
-    requires larger_rows { All (IsRow k (m + 2)) larger.now }
-    requires master_rows { All (IsRow (k + 2) t) master.now }
-    requires room { size_of rows.old + (k + 1) * length (flat_map (fill_two k m t u w small.now large.now larger.now) master.now) < PACKED_MAX }
-    ensures { OnOk result (rows.new ≡ rows.old ++ blocks_of_rows k (m * t + u + w) (flat_map (fill_two k m t u w small.now large.now larger.now) master.now)) }
+    requires points { cut.m * cut.t + cut.u + cut.w ≤ TD_N_MAX }
+    requires small_rows { All (IsRow k cut.m) small.now }
+    requires large_rows { All (IsRow k (cut.m + 1)) large.now }
+    requires larger_rows { All (IsRow k (cut.m + 2)) larger.now }
+    requires master_rows { All (IsRow (k + 2) cut.t) master.now }
+    requires room { size_of rows.old + (k + 1) * length (flat_map (fill_two k cut.m cut.t cut.u cut.w small.now large.now larger.now) master.now) < PACKED_MAX }
+    ensures { OnOk result (rows.new ≡ rows.old ++ blocks_of_rows k (cut.m * cut.t + cut.u + cut.w) (flat_map (fill_two k cut.m cut.t cut.u cut.w small.now large.now larger.now) master.now)) }
 {
     for row in master.iter() {
-        push_fill_two(rows, k, m, t, u, w, small, large, larger, row)?;
+        push_fill_two(rows, k, cut, small, large, larger, row)?;
     }
     Ok(())
 }

@@ -8,7 +8,7 @@ ghost use Rattle.transversal.specs.Constructions.{raised};
 ghost use Rattle.wilson.specs.Conditions.{CanTruncateOnce, CanTruncateTwice};
 ghost use Rattle.wilson.specs.Truncations.{one_truncated_rows, two_truncated_rows, wilson_one_blocks, wilson_two_blocks};
 
-use crate::filling::{push_fills_one, push_fills_two};
+use crate::filling::{OneTruncation, TwoTruncations, push_fills_one, push_fills_two};
 use crate::holes::{holed_of_td, holed_twice_of_td};
 use design_base::{Memory, PACKED_MAX, TD_K_MAX, TD_N_MAX};
 use incidence::{Rows, array_of_td};
@@ -44,9 +44,7 @@ fn push_raised_td(
 fn assemble_one(
     alloc: Global,
     k: u16,
-    m: u16,
-    t: u16,
-    u: u16,
+    cut: OneTruncation,
     master: &Rows,
     small: &Rows,
     large: &Rows,
@@ -54,21 +52,21 @@ fn assemble_one(
 ) -> Result<Rows, Memory>
     requires two_groups { 2 ≤ k }
     requires groups { k + 1 ≤ TD_K_MAX }
-    requires some_kept { 1 ≤ u }
-    requires kept { u ≤ t }
-    requires points { m * t + u ≤ TD_N_MAX }
-    requires master { IsTd master.now (k + 1) t }
-    requires small { All (IsRow k m) small.now }
-    requires large { All (IsRow k (m + 1)) large.now }
-    requires rest { IsTd rest.now k u }
-    requires room { (k + 1) * length (one_truncated_rows k m t u (rows_of_blocks t master.now) small.now large.now (rows_of_blocks u rest.now)) < PACKED_MAX }
-    ensures { IfOk result (λ rows. rows ≡ canonical (blocks_of_rows k (m * t + u) (one_truncated_rows k m t u (rows_of_blocks t master.now) small.now large.now (rows_of_blocks u rest.now)))) }
+    requires some_kept { 1 ≤ cut.u }
+    requires kept { cut.u ≤ cut.t }
+    requires points { cut.m * cut.t + cut.u ≤ TD_N_MAX }
+    requires master { IsTd master.now (k + 1) cut.t }
+    requires small { All (IsRow k cut.m) small.now }
+    requires large { All (IsRow k (cut.m + 1)) large.now }
+    requires rest { IsTd rest.now k cut.u }
+    requires room { (k + 1) * length (one_truncated_rows k cut.m cut.t cut.u (rows_of_blocks cut.t master.now) small.now large.now (rows_of_blocks cut.u rest.now)) < PACKED_MAX }
+    ensures { IfOk result (λ rows. rows ≡ canonical (blocks_of_rows k (cut.m * cut.t + cut.u) (one_truncated_rows k cut.m cut.t cut.u (rows_of_blocks cut.t master.now) small.now large.now (rows_of_blocks cut.u rest.now)))) }
 {
-    let n = m * t + u;
-    let master = array_of_td(alloc, k + 1, t, master)?;
+    let n = cut.m * cut.t + cut.u;
+    let master = array_of_td(alloc, k + 1, cut.t, master)?;
     let mut rows = with_room(alloc, k, n)?;
-    push_fills_one(&mut rows, k, m, t, u, small, large, &master)?;
-    push_raised_td(alloc, &mut rows, k, n, m * t, u, rest)?;
+    push_fills_one(&mut rows, k, cut, small, large, &master)?;
+    push_raised_td(alloc, &mut rows, k, n, cut.m * cut.t, cut.u, rest)?;
     let blocks = rows.canonical()?;
     Ok(blocks)
 }
@@ -97,7 +95,15 @@ pub fn truncate_one(
 {
     let small = array_of_td(alloc, k, m, small)?;
     let large = holed_of_td(alloc, k, m, large)?;
-    let blocks = assemble_one(alloc, k, m, t, u, master, &small, &large, rest)?;
+    let blocks = assemble_one(
+        alloc,
+        k,
+        OneTruncation { m, t, u },
+        master,
+        &small,
+        &large,
+        rest,
+    )?;
     Ok(blocks)
 }
 
@@ -106,10 +112,7 @@ pub fn truncate_one(
 fn assemble_two(
     alloc: Global,
     k: u16,
-    m: u16,
-    t: u16,
-    u: u16,
-    w: u16,
+    cut: TwoTruncations,
     master: &Rows,
     small: &Rows,
     large: &Rows,
@@ -119,25 +122,25 @@ fn assemble_two(
 ) -> Result<Rows, Memory>
     requires two_groups { 2 ≤ k }
     requires groups { k + 2 ≤ TD_K_MAX }
-    requires first_some_kept { 1 ≤ u }
-    requires first_kept { u ≤ t }
-    requires second_some_kept { 1 ≤ w }
-    requires points { m * t + u + w ≤ TD_N_MAX }
-    requires master { IsTd master.now (k + 2) t }
-    requires small { All (IsRow k m) small.now }
-    requires large { All (IsRow k (m + 1)) large.now }
-    requires larger { All (IsRow k (m + 2)) larger.now }
-    requires first { IsTd first.now k u }
-    requires second { IsTd second.now k w }
-    requires room { (k + 1) * length (two_truncated_rows k m t u w (rows_of_blocks t master.now) small.now large.now larger.now (rows_of_blocks u first.now) (rows_of_blocks w second.now)) < PACKED_MAX }
-    ensures { IfOk result (λ rows. rows ≡ canonical (blocks_of_rows k (m * t + u + w) (two_truncated_rows k m t u w (rows_of_blocks t master.now) small.now large.now larger.now (rows_of_blocks u first.now) (rows_of_blocks w second.now)))) }
+    requires first_some_kept { 1 ≤ cut.u }
+    requires first_kept { cut.u ≤ cut.t }
+    requires second_some_kept { 1 ≤ cut.w }
+    requires points { cut.m * cut.t + cut.u + cut.w ≤ TD_N_MAX }
+    requires master { IsTd master.now (k + 2) cut.t }
+    requires small { All (IsRow k cut.m) small.now }
+    requires large { All (IsRow k (cut.m + 1)) large.now }
+    requires larger { All (IsRow k (cut.m + 2)) larger.now }
+    requires first { IsTd first.now k cut.u }
+    requires second { IsTd second.now k cut.w }
+    requires room { (k + 1) * length (two_truncated_rows k cut.m cut.t cut.u cut.w (rows_of_blocks cut.t master.now) small.now large.now larger.now (rows_of_blocks cut.u first.now) (rows_of_blocks cut.w second.now)) < PACKED_MAX }
+    ensures { IfOk result (λ rows. rows ≡ canonical (blocks_of_rows k (cut.m * cut.t + cut.u + cut.w) (two_truncated_rows k cut.m cut.t cut.u cut.w (rows_of_blocks cut.t master.now) small.now large.now larger.now (rows_of_blocks cut.u first.now) (rows_of_blocks cut.w second.now)))) }
 {
-    let n = m * t + u + w;
-    let master = array_of_td(alloc, k + 2, t, master)?;
+    let n = cut.m * cut.t + cut.u + cut.w;
+    let master = array_of_td(alloc, k + 2, cut.t, master)?;
     let mut rows = with_room(alloc, k, n)?;
-    push_fills_two(&mut rows, k, m, t, u, w, small, large, larger, &master)?;
-    push_raised_td(alloc, &mut rows, k, n, m * t, u, first)?;
-    push_raised_td(alloc, &mut rows, k, n, m * t + u, w, second)?;
+    push_fills_two(&mut rows, k, cut, small, large, larger, &master)?;
+    push_raised_td(alloc, &mut rows, k, n, cut.m * cut.t, cut.u, first)?;
+    push_raised_td(alloc, &mut rows, k, n, cut.m * cut.t + cut.u, cut.w, second)?;
     let blocks = rows.canonical()?;
     Ok(blocks)
 }
@@ -173,10 +176,7 @@ pub fn truncate_two(
     let blocks = assemble_two(
         alloc,
         k,
-        m,
-        t,
-        u,
-        w,
+        TwoTruncations { m, t, u, w },
         master,
         &small,
         &large,

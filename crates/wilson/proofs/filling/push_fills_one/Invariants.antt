@@ -8,7 +8,7 @@ use Rattle.wilson.specs.Truncations.{fill_one}
 
 abbrev pub invariant-loop-row : goal.invariant-loop-row
 invariant-loop-row l = record {
-  blocks : l.rows ++ blocks_of_rows l.k (l.m * l.t + l.u) (flat_map (fill_one l.k l.m l.t l.u l.small l.large) l.row-iterator)
-      ≡ l.fn.rows ++ blocks_of_rows l.k (l.m * l.t + l.u) (flat_map (fill_one l.k l.m l.t l.u l.small l.large) l.master);
-  left : All (IsRow (l.k + 1) l.t) l.row-iterator;
+  blocks : l.rows ++ blocks_of_rows l.k (l.cut.m * l.cut.t + l.cut.u) (flat_map (fill_one l.k l.cut.m l.cut.t l.cut.u l.small l.large) l.row-iterator)
+      ≡ l.fn.rows ++ blocks_of_rows l.k (l.cut.m * l.cut.t + l.cut.u) (flat_map (fill_one l.k l.cut.m l.cut.t l.cut.u l.small l.large) l.master);
+  left : All (IsRow (l.k + 1) l.cut.t) l.row-iterator;
 }

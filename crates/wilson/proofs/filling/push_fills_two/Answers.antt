@@ -10,13 +10,13 @@ use Rattle.wilson.specs.Truncations.{fill_two}
 pub push_fill_two-requires-clause-room : goal.push_fill_two-requires-clause-room
 push_fill_two-requires-clause-room c = omega (
   arith,
-  room_next c.args.k (c.args.m * c.args.t + c.args.u + c.args.w) c.loop-row.rows c.args.rows.now (fill_two c.args.k c.args.m c.args.t c.args.u c.args.w c.args.small.now c.args.large.now c.args.larger.now c.in-Some.row.now)
-      (flat_map (fill_two c.args.k c.args.m c.args.t c.args.u c.args.w c.args.small.now c.args.large.now c.args.larger.now) c.next.new.self) (flat_map (fill_two c.args.k c.args.m c.args.t c.args.u c.args.w c.args.small.now c.args.large.now c.args.larger.now) c.args.master.now) (grind (arith, steps)),
+  room_next c.args.k (c.args.cut.m * c.args.cut.t + c.args.cut.u + c.args.cut.w) c.loop-row.rows c.args.rows.now (fill_two c.args.k c.args.cut.m c.args.cut.t c.args.cut.u c.args.cut.w c.args.small.now c.args.large.now c.args.larger.now c.in-Some.row.now)
+      (flat_map (fill_two c.args.k c.args.cut.m c.args.cut.t c.args.cut.u c.args.cut.w c.args.small.now c.args.large.now c.args.larger.now) c.next.new.self) (flat_map (fill_two c.args.k c.args.cut.m c.args.cut.t c.args.cut.u c.args.cut.w c.args.small.now c.args.large.now c.args.larger.now) c.args.master.now) (grind (arith, steps)),
   c.requires.room,
 )
 
 pub loop-row-preserved : goal.loop-row-preserved
 loop-row-preserved c = record {
   blocks = grind (arith, steps);
-  left = left_after (IsRow (c.args.k + 2) c.args.t) c.loop-row.row-iterator c.in-Some.row.now c.next.new.self (grind arith) c.loop-row.invariant.left;
+  left = left_after (IsRow (c.args.k + 2) c.args.cut.t) c.loop-row.row-iterator c.in-Some.row.now c.next.new.self (grind arith) c.loop-row.invariant.left;
 }

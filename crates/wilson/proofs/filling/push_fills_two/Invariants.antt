@@ -8,7 +8,7 @@ use Rattle.wilson.specs.Truncations.{fill_two}
 
 abbrev pub invariant-loop-row : goal.invariant-loop-row
 invariant-loop-row l = record {
-  blocks : l.rows ++ blocks_of_rows l.k (l.m * l.t + l.u + l.w) (flat_map (fill_two l.k l.m l.t l.u l.w l.small l.large l.larger) l.row-iterator)
-      ≡ l.fn.rows ++ blocks_of_rows l.k (l.m * l.t + l.u + l.w) (flat_map (fill_two l.k l.m l.t l.u l.w l.small l.large l.larger) l.master);
-  left : All (IsRow (l.k + 2) l.t) l.row-iterator;
+  blocks : l.rows ++ blocks_of_rows l.k (l.cut.m * l.cut.t + l.cut.u + l.cut.w) (flat_map (fill_two l.k l.cut.m l.cut.t l.cut.u l.cut.w l.small l.large l.larger) l.row-iterator)
+      ≡ l.fn.rows ++ blocks_of_rows l.k (l.cut.m * l.cut.t + l.cut.u + l.cut.w) (flat_map (fill_two l.k l.cut.m l.cut.t l.cut.u l.cut.w l.small l.large l.larger) l.master);
+  left : All (IsRow (l.k + 2) l.cut.t) l.row-iterator;
 }

@@ -9,7 +9,7 @@ pub push_fills_one-requires-clause-room : goal.push_fills_one-requires-clause-ro
 push_fills_one-requires-clause-room c = omega (
   arith,
   ap size_of c.in_ok-rows.ensures,
-  room_of_one c.args.k c.args.m c.args.t c.args.u _ c.in_ok-master.master c.args.small.now c.args.large.now (rows_of_blocks c.args.u c.args.rest.now) c.in_ok-master.ensures.rows,
+  room_of_one c.args.k c.args.cut.m c.args.cut.t c.args.cut.u _ c.in_ok-master.master c.args.small.now c.args.large.now (rows_of_blocks c.args.cut.u c.args.rest.now) c.in_ok-master.ensures.rows,
   c.requires.room,
 )
 
@@ -17,8 +17,8 @@ pub push_raised_td-requires-clause-room : goal.push_raised_td-requires-clause-ro
 push_raised_td-requires-clause-room c = omega (
   arith,
   ap size_of c.in_ok-rows.ensures,
-  size_of_more c.args.k (c.args.m * c.args.t + c.args.u) _ _ _ c.in_ok-push_fills_one.ensures,
-  room_of_one c.args.k c.args.m c.args.t c.args.u _ c.in_ok-master.master c.args.small.now c.args.large.now (rows_of_blocks c.args.u c.args.rest.now) c.in_ok-master.ensures.rows,
+  size_of_more c.args.k (c.args.cut.m * c.args.cut.t + c.args.cut.u) _ _ _ c.in_ok-push_fills_one.ensures,
+  room_of_one c.args.k c.args.cut.m c.args.cut.t c.args.cut.u _ c.in_ok-master.master c.args.small.now c.args.large.now (rows_of_blocks c.args.cut.u c.args.rest.now) c.in_ok-master.ensures.rows,
   c.requires.room,
 )
 
