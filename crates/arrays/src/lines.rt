@@ -22,7 +22,7 @@ fn is_row(k: u16, n: u16, line: &[u16]) -> bool
 
 // The first of the `wanted` lines at the front that has not `k` symbols below `n`, counted from 1.
 #[tactic(auto, using(crate::proofs::Shapes::bad_row_none))]
-pub fn bad_row(k: u16, n: u16, lines: &Rows, wanted: usize) -> Option<u32>
+pub(crate) fn bad_row(k: u16, n: u16, lines: &Rows, wanted: usize) -> Option<u32>
     ensures { result ≡ bad_row_of k n (take wanted lines.now) }
 {
     for i in 0..lines.len().min(wanted) {
@@ -44,7 +44,7 @@ fn bad_count(wanted: usize, count: usize) -> Option<u32>
 
 // The first bad line of `m` squares of order `n`, counted from 1.
 #[tactic(auto, unfolding(crate::specs::Lines::bad_line))]
-pub fn bad_line(m: u16, n: u16, lines: &Rows) -> Option<u32>
+pub(crate) fn bad_line(m: u16, n: u16, lines: &Rows) -> Option<u32>
     ensures { result ≡ bad_line_of m n lines.now }
 {
     let wanted = usize::from(m) * usize::from(n);

@@ -39,7 +39,7 @@ fn is_power_point(field: &Field, n: u16, z: u32) -> bool
     lead(field.order(), 3, z) == 1 && power_sum(field, entries(field, z), n) == 0
 }
 
-// The points at which the sum of the `n`-th powers of the entries is 0.
+// The points of the plane at which the sum of the `n`-th powers of the entries is 0, or `Memory` for want of memory.
 #[tactic(auto, using(crate::proofs::CurveSteps::curve_steps))]
 pub(crate) fn power_points(alloc: Global, field: &Field, n: u16) -> Result<Vec<Vector>, Memory>
     ensures { IfOk result (λ points. points.items ≡ curve_points field.now (is_power_zero (field_sum field.now) (field_product field.now) field.now n) (field.now ^ 3)) }

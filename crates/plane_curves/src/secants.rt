@@ -83,7 +83,7 @@ fn push_secants_to(
     Ok(())
 }
 
-// All lines of two vectors of the list, each once, in canonical form.
+// All lines of two vectors of the list, each once, in canonical form, or `Memory` for want of memory.
 #[tactic(auto, using(crate::proofs::SecantSteps::secant_steps))]
 pub(crate) fn secants(alloc: Global, field: &Field, vectors: &[Vector]) -> Result<Rows, Memory>
     requires over { All (IsOver field.now) vectors.now }

@@ -7,7 +7,7 @@ use design_base::Memory;
 use field_tables::Field;
 use std::alloc::Global;
 
-// The coefficients of an affine geometry: those whose sum is 1.
+// The coefficients of an affine geometry: those whose sum is 1. The answer is `Memory` only for want of memory.
 #[tactic(auto, using(crate::proofs::CoefficientSteps::coefficient_steps))]
 pub(crate) fn affine_coefficients(alloc: Global, field: &Field) -> Result<Vec<(u16, u16)>, Memory>
     ensures affine { IfOk result (λ coefficients. AreAffine (field_sum field.now) field.now coefficients.items) }
@@ -20,7 +20,8 @@ pub(crate) fn affine_coefficients(alloc: Global, field: &Field) -> Result<Vec<(u
     Ok(coefficients)
 }
 
-// The coefficients of a projective geometry: those whose first nonzero number is 1.
+// The coefficients of a projective geometry: those whose first nonzero number is 1. The answer is `Memory` only for want of
+// memory.
 #[tactic(auto, using(crate::proofs::CoefficientSteps::coefficient_steps))]
 pub(crate) fn projective_coefficients(
     alloc: Global,

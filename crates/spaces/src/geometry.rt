@@ -39,7 +39,7 @@ pub struct Geometry<'a> {
     ghost elements: { AreElements field.now coefficients.items },
 }
 
-// The numbers below `v`, in order.
+// The numbers below `v`, in order, or `Memory` for want of memory.
 #[tactic(auto, using(crate::proofs::PointSteps::number_steps))]
 fn numbers(alloc: Global, v: u16) -> Result<Vec<u16>, Memory>
     ensures { IfOk result (λ numbers. AreNumbers v numbers.items) }
@@ -56,7 +56,8 @@ impl<'a> Geometry<'a> {
     ghost use Rattle.spaces.specs.GeometryLines.{IsAffine, IsProjective};
     ghost use Rattle.design_base.specs.Geometries.{point_count};
 
-    // The affine geometry of dimension `d`.
+    // The affine geometry of dimension `d`, which is at least 1: its points are all vectors of `d` entries, at most `POINTS_MAX`.
+    // The answer is `Memory` only for want of memory.
     #[tactic(auto, using(crate::proofs::Bounds::bounds))]
     pub(crate) fn affine(alloc: Global, field: &'a Field, d: u16) -> Result<Self, Memory>
         requires dimension { 1 ≤ d }
@@ -76,7 +77,8 @@ impl<'a> Geometry<'a> {
         })
     }
 
-    // The projective geometry of dimension `d`.
+    // The projective geometry of dimension `d`, which is at least 1: its points are the vectors of `d + 1` entries whose first
+    // entry but 0 is 1, at most `POINTS_MAX`. The answer is `Memory` only for want of memory.
     #[tactic(auto, using(crate::proofs::Bounds::bounds))]
     pub(crate) fn projective(alloc: Global, field: &'a Field, d: u16) -> Result<Self, Memory>
         requires dimension { 1 ≤ d }
@@ -167,7 +169,8 @@ impl Geometry<'_> {
         Ok(())
     }
 
-    // All lines, each once, in canonical form. Two points have one line.
+    // All lines, each once, in canonical form. Two points have one line; there are at most `POINTS_MAX` points. The answer is
+    // `Memory` only for want of memory.
     #[tactic(auto, using(crate::proofs::Rising::rising_steps))]
     pub(crate) fn lines(&self, alloc: Global) -> Result<Rows, Memory>
         requires points { length self.now.points.items ≤ POINTS_MAX }

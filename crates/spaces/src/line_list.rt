@@ -62,7 +62,7 @@ fn mark_line(met: &mut [bool], line: &[u16])
 }
 
 impl LineList {
-    // No line.
+    // No line. The answer is `Memory` only for want of memory.
     pub(crate) fn new(alloc: Global) -> Result<Self, Memory>
         ensures { IfOk result (λ lines. lines ≡ []) }
     {
@@ -73,7 +73,7 @@ impl LineList {
         })
     }
 
-    // Whether x and y are on a line of the list.
+    // Whether the points `x` and `y`, which are below `POINTS_MAX`, are on a line of the list.
     pub(crate) fn joins(&self, x: u16, y: u16) -> bool
         requires first { x < POINTS_MAX }
         requires second { y < POINTS_MAX }
@@ -82,7 +82,7 @@ impl LineList {
         self.met[place(x, y)]
     }
 
-    // Appends a line.
+    // Appends a line of points below `POINTS_MAX`. The answer is `Memory` only for want of memory.
     pub(crate) fn push(&mut self, line: &[u16]) -> Result<(), Memory>
         requires line { All (λ y. y < POINTS_MAX) line.now }
         requires room { size_of self.old + length line.now + 1 < PACKED_MAX }
@@ -94,7 +94,7 @@ impl LineList {
         Ok(())
     }
 
-    // The lines, in canonical form.
+    // The lines, in canonical form, or `Memory` for want of memory.
     pub(crate) fn canonical(self) -> Result<Rows, Memory>
         ensures { IfOk result (λ rows. rows ≡ canonical_form self) }
     {

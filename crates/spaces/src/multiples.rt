@@ -55,7 +55,8 @@ fn push_multiples(
     Ok(())
 }
 
-// The entries of t * x for each element t and each of the points x. The vectors have `n` entries.
+// The entries of t * x for each element t and each of the points x. The vectors have `n` entries; there are at most
+// `POINTS_MAX` elements, entries and points. The answer is `Memory` only for want of memory.
 #[tactic(auto, using(crate::proofs::EntrySteps::entry_steps))]
 pub(crate) fn multiples(
     alloc: Global,

@@ -9,7 +9,8 @@ use design_base::Memory;
 use field_tables::Field;
 use std::alloc::Global;
 
-// The points among the vectors of `n` entries, in the order of their numbers. There are `vectors` vectors.
+// The points among the vectors of `n` entries, in the order of their numbers: those whose first entry but 0 is 1. There are
+// `vectors` vectors, q ^ n, over a field of `q` elements. The answer is `Memory` only for want of memory.
 #[tactic(auto, using(crate::proofs::PointSteps::point_steps))]
 pub(crate) fn points(alloc: Global, q: u16, n: u16, vectors: u16) -> Result<Vec<u16>, Memory>
     requires order { 0 < q }
@@ -60,7 +61,8 @@ fn place_of(field: &Field, n: u16, points: &[u16], x: u16) -> u16
     place_in(points, point_of(field, n, x))
 }
 
-// The places of the points of the vectors of `n` entries; the vector 0 has the place 0. There are `vectors` vectors.
+// The places of the points of the vectors of `n` entries; the vector 0 has the place 0. There are `vectors` vectors, q ^ n, and
+// `points` are their points in order. The answer is `Memory` only for want of memory.
 #[tactic(auto, using(crate::proofs::PointSteps::point_steps))]
 pub(crate) fn places(
     alloc: Global,
