@@ -13,7 +13,8 @@ use design_base::{Memory, PACKED_MAX, TD_K_MAX, TD_N_MAX};
 use incidence::{Rows, push_block};
 use std::alloc::Global;
 
-/// The transversal design of `k` groups of one point: its only block holds all points.
+/// The transversal design of `k` groups of one point: its only block holds all points. It is the trivial one of the transversal
+/// designs of Colbourn and Dinitz, Handbook of Combinatorial Designs, III.3.
 ///
 /// `k` is from 2 to `TD_K_MAX`. The answer is `Memory` only for want of memory.
 #[tactic(auto, using(crate::proofs::Steps::steps, crate::proofs::OneArray::row_of_zeros, crate::proofs::OneArray::block_of_zeros))]
