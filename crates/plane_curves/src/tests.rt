@@ -13,6 +13,7 @@ fn assert_rows(rt: &impl Abort, rows: &Rows, count: usize, middle: &[u16], last:
 }
 
 #[test]
+#[tactic(auto, unfolding(design_base::specs::Fields::modulus_of, design_base::specs::Fields::moduli, counting::specs::Search::first_in))]
 fn unitals(rt: HostRuntime) -> Result<(), Fail> {
     let alloc = rt.alloc();
     assert_rows(&rt, &unital(alloc, 2)?, 12, &[1, 6, 7], &[4, 6, 8]);
