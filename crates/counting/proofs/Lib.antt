@@ -3,6 +3,7 @@ pub mod Lists
 pub mod Ranges
 pub mod Sorting
 pub mod Residues
+pub mod Division
 pub mod OnePlace
 pub mod Grids
 pub mod Booleans

@@ -2,6 +2,7 @@
 use Rattle.std.proofs.Common.{arith, false, refl, true, ℕ, ◌%◌, ◌*◌, ◌+◌, ◌-◌, ◌/◌, ◌<◌, ◌≡◌, ◌≤◌}
 use Rattle.std.proofs.Math.Nat.{div-add-mod'}
 use Rattle.counting.proofs.Booleans.{both, eqb-true, leb-true}
+use Rattle.counting.proofs.Division.{whole_times}
 use Rattle.std.specs.Prelude.{◌&&◌, ◌==◌, length}
 use Rattle.counting.specs.Division.{divides}
 use Rattle.counting.specs.Search.{is_among, ◌<=◌}
@@ -15,7 +16,7 @@ use Rattle.design_base.specs.declared.query.Query.{Query}
 use Rattle.design_base.specs.declared.query.Query.TheVariants.{Bibd, Df, Gdd, Pbd, Td}
 use Rattle.design_base.specs.declared.rule.Rule.{Rule}
 use Rattle.design_base.specs.declared.rule.Rule.TheVariants.{Cosets, Cosets0, Halfcosets, Powers, Table}
-use Rattle.difference_sets.proofs.ListedCosets.{twice_times, whole_times}
+use Rattle.difference_sets.proofs.ListedCosets.{twice_times}
 use Rattle.difference_sets.proofs.StepsMeet.{step_law}
 use Rattle.difference_sets.proofs.TestedFamilies.{row_is_family, row_small}
 use Rattle.difference_sets.specs.Conditions.{CanBuildCosets, CanBuildFamily}

@@ -2,6 +2,7 @@
 use Rattle.std.proofs.Common.{arith, subst, sym, true, ℕ, ◌%◌, ◌*◌, ◌+◌, ◌-◌, ◌/◌, ◌<◌, ◌≡◌, ◌≤◌}
 use Rattle.std.proofs.Math.Nat.{div-add-mod', mod-lt}
 use Rattle.std.proofs.lemmas.Nat.{same_from_place}
+use Rattle.counting.proofs.Division.{whole_times}
 use Rattle.design_base.specs.Blocks.{IsDf}
 use Rattle.design_base.specs.Canonical.{canonical}
 use Rattle.design_base.specs.Fields.{field_product, field_sum, gen, has_field}
@@ -10,10 +11,6 @@ use Rattle.difference_sets.proofs.Subgroups.{cosets0_are_family, cosets_are_fami
 use Rattle.difference_sets.specs.Families.{coset0_blocks, coset_blocks, field_cosets, halfcoset_blocks}
 use Rattle.field_tables.proofs.Generators.{listed_generator}
 use Rattle.field_tables.proofs.Listed.{listed_field}
-
--- k divides n
-pub whole_times : (n k : ℕ) → n % k ≡ 0 → n / k * k ≡ n
-whole_times n k e = omega (arith, div-add-mod' n k)
 
 -- twice k divides n: n is an even number of times k
 pub record IsTwice (n k : ℕ) : Type 0 where

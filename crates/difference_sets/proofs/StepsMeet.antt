@@ -1,10 +1,11 @@
 -- A step of a rule of difference families meets its question exactly where the closed form says so.
-use Rattle.std.proofs.Common.{arith, false, length, refl, subst, sym, true, ℕ, ◌%◌, ◌*◌, ◌+◌, ◌-◌, ◌/◌, ◌≡◌, ◌≤◌}
+use Rattle.std.proofs.Common.{arith, false, length, subst, sym, true, ℕ, ◌%◌, ◌*◌, ◌+◌, ◌-◌, ◌/◌, ◌≡◌, ◌≤◌}
 use Rattle.counting.proofs.Booleans.{and_from, bool_same, both, eqb-true, leb-true}
 use Rattle.std.proofs.lemmas.List.Elements.{All-from_recursion}
 use Rattle.std.specs.Prelude.{◌↔◌, nat_le, ◌&&◌, ◌==◌}
 use Rattle.counting.specs.Division.{divides}
 use Rattle.counting.specs.Search.{is_among, ◌<=◌}
+use Rattle.design_base.proofs.Same.{group_same}
 use Rattle.design_base.specs.Blocks.{IsDf}
 use Rattle.design_base.specs.Canonical.{canonical}
 use Rattle.design_base.specs.Fields.{field_sum, has_field}
@@ -13,6 +14,7 @@ use Rattle.design_base.specs.Meets.{Meets, group_add}
 use Rattle.design_base.specs.declared.limits.TheConstants.{COVER_MAX, POINTS_MAX}
 use Rattle.design_base.specs.declared.query.Group.{Group}
 use Rattle.design_base.specs.declared.query.Group.TheVariants.{Cyclic, Field}
+use Rattle.design_base.specs.Same.{same_group}
 use Rattle.design_base.specs.Steps.{Step}
 use Rattle.design_base.specs.declared.query.Query.{Query}
 use Rattle.design_base.specs.declared.query.Query.TheVariants.{Df}
@@ -23,15 +25,9 @@ use Rattle.design_checks.specs.Findings.{passes_check}
 use Rattle.difference_sets.proofs.ListedCosets.{cosets0_family, cosets_family, halfcosets_family}
 use Rattle.difference_sets.proofs.TestedFamilies.{IsListedFamily, each_listed, family_is_row, row_is_family}
 use Rattle.difference_sets.specs.Families.{coset0_blocks, coset_blocks, family_blocks, halfcoset_blocks, power_blocks, step_blocks}
-use Rattle.difference_sets.specs.FamilySteps.{IsFamilyStep, is_tested_step, are_cosets, are_cosets0, are_halfcosets, are_powers, family_applies, is_family_step, is_listed_family, is_power_row, is_stated, is_stated_step, same_group}
+use Rattle.difference_sets.specs.FamilySteps.{IsFamilyStep, is_tested_step, are_cosets, are_cosets0, are_halfcosets, are_powers, family_applies, is_family_step, is_listed_family, is_power_row, is_stated, is_stated_step}
 use Rattle.difference_sets.specs.Listed.{families, family_at}
 use Rattle.field_tables.proofs.Listed.{FieldAt-listed}
-
-same_groups : (g h : Group) → same_group g h ≡ true → g ≡ h
-same_groups Cyclic Cyclic e = refl
-same_groups Field Field e = refl
-same_groups Cyclic Field e = absurd (let f : false ≡ true = e in cc)
-same_groups Field Cyclic e = absurd (let f : false ≡ true = e in cc)
 
 -- the numbers of a question that is in bounds
 pub record IsAsked (v k l : ℕ) : Type 0 where
@@ -61,7 +57,7 @@ listed_meets n group v k l h =
     let c = both (f.v == v) (f.k == k && f.l == l) b.1 in
     let d = both (f.k == k) (f.l == l) c.1 in
     let is : IsListedFamily f = All-from_recursion IsListedFamily families each_listed (n - 1) _ (omega (arith, leb-true 1 n inside.0, leb-true n (length families) inside.1)) in
-    subst (λ g. Meets (Df g v k l) (canonical f.blocks)) (same_groups f.group group b.0)
+    subst (λ g. Meets (Df g v k l) (canonical f.blocks)) (group_same f.group group b.0)
     (subst (λ v. Meets (Df f.group v k l) (canonical f.blocks)) (eqb-true _ _ c.0)
     (subst (λ k. Meets (Df f.group f.v k l) (canonical f.blocks)) (eqb-true _ _ d.0)
     (subst (λ l. Meets (Df f.group f.v f.k l) (canonical f.blocks)) (eqb-true _ _ d.1) is)))

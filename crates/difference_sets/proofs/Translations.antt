@@ -1,18 +1,17 @@
 -- The translates of a difference family are a BIBD.
-use Rattle.std.proofs.Common.{List, [], ◌∷◌, ap, ap₂, arith, inl, inr, length, map, subst, sym, ℕ, ◌&&◌, ◌*◌, ◌+◌, ◌-◌, ◌<◌, ◌==◌, ◌∙◌, ◌≡◌, ◌≢◌, ◌≤◌}
+use Rattle.std.proofs.Common.{List, ap, ap₂, arith, inl, inr, length, map, sym, ℕ, ◌&&◌, ◌*◌, ◌+◌, ◌-◌, ◌<◌, ◌==◌, ◌∙◌, ◌≡◌, ◌≢◌, ◌≤◌}
 use Rattle.std.proofs.Math.Nat.{mul-le-mul_left, mul-le-mul_right}
 use Rattle.counting.proofs.Booleans.{both_equal, both_equal-from, cases_eq, eq-eqb, eqb-true}
-use Rattle.std.proofs.lemmas.List.{length-map}
 use Rattle.std.proofs.lemmas.List.Elements.{All-from_recursion}
-use Rattle.std.specs.List.{AllByRecursion, flat_map, sum_by}
+use Rattle.std.specs.List.{flat_map, sum_by}
 use Rattle.std.specs.Prelude.{All}
 use Rattle.block_counts.proofs.Families.{differences_counted}
 use Rattle.counting.proofs.Counts.{count_none, count_one, one-false, one-true, sum_below-same}
-use Rattle.counting.proofs.Lists.{All-flat_map_of, each_all, each_map, one-and, sum_by-agree, sum_by-flat_map, sum_by-map, sum_by-product, sum_by-same, sum_by-sum_below}
+use Rattle.counting.proofs.Lists.{All-flat_map_of, each_all, one-and, sum_by-agree, sum_by-flat_map, sum_by-map, sum_by-product, sum_by-same, sum_by-sum_below}
 use Rattle.counting.proofs.Ranges.{each_below}
 use Rattle.counting.specs.Sums.{one, sum_below}
 use Rattle.criteria.proofs.Laws.{group_sum}
-use Rattle.design_base.proofs.Canonical.{Differs, IsLoose, IsPointSet, design_from_loose, set_from_block}
+use Rattle.design_base.proofs.Canonical.{IsLoose, IsPointSet, KeepsApart, design_from_loose, differs-map, set-map, set_from_block}
 use Rattle.design_base.proofs.Cover.{cover-each, cover-is}
 use Rattle.design_base.proofs.Points.{one-holds}
 use Rattle.design_base.specs.Blocks.{IsBibd, IsBlock, IsDf, cover, differences, holds}
@@ -25,26 +24,6 @@ use Rattle.field_tables.proofs.GroupSums.{group_sums}
 use Rattle.field_tables.specs.Laws.{IsCommutativeGroup}
 use Rattle.difference_sets.specs.Conditions.{CanDevelop}
 use Rattle.difference_sets.specs.Develop.{developed, translates_below}
-
--- f keeps the numbers below w apart
-abbrev KeepsApart : ℕ → (ℕ → ℕ) → Type 0
-KeepsApart w f = (x y : ℕ) → x < w → y < w → f x ≡ f y → x ≡ y
-
-module _ (w : ℕ) (f : ℕ → ℕ) (apart : KeepsApart w f) where
-  others-map : (x : ℕ) → x < w → (b : List ℕ) → AllByRecursion (λ z. z < w) b → AllByRecursion (λ y. x ≢ y) b → AllByRecursion (λ y. f x ≢ y) (map f b)
-  others-map x l [] g d = tt
-  others-map x l (y ∷ b) g d = ((λ e. d.0 (apart x y l g.0 e)), others-map x l b g.1 d.1)
-
-  map-differs : (b : List ℕ) → AllByRecursion (λ z. z < w) b → Differs b → Differs (map f b)
-  map-differs [] h d = tt
-  map-differs (x ∷ b) h d = (others-map x h.0 b h.1 d.0, map-differs b h.1 d.1)
-
-  set-map : (v : ℕ) (Size : ℕ → Type 0) → ((x : ℕ) → x < w → f x < v) → (b : List ℕ) → IsPointSet w Size b → IsPointSet v Size (map f b)
-  set-map v Size into b s = record {
-    differs = map-differs b s.below s.differs;
-    below = each_map f (λ z. z < w) (λ z. z < v) into b s.below;
-    size = subst Size (sym (length-map b f)) s.size;
-  }
 
 module _ (v k l : ℕ) (add : ℕ → ℕ → ℕ) (group : IsCommutativeGroup v add) (B : List (List ℕ)) (family : IsDf B add v k l) where
   abbrev Size : ℕ → Type 0
@@ -77,7 +56,7 @@ module _ (v k l : ℕ) (add : ℕ → ℕ → ℕ) (group : IsCommutativeGroup v
       ∙ sum_by-same _ _ b (each_all _ (λ p. sum_by-same _ _ b (each_all (λ q. one (add p c == x) * one (add q c == y) ≡ one ((add p c == x) && (add q c == y))) (λ q. sym (one-and _ _)) b)) b)
     where
       points : (x : ℕ) → one (holds x (map (λ z. add z c) b)) ≡ sum_by (λ p. one (add p c == x)) b
-      points x = one-holds x (map (λ z. add z c) b) (map-differs v (λ z. add z c) (keeps c) b s.below s.differs) ∙ sum_by-map (λ z. one (z == x)) (λ z. add z c) b
+      points x = one-holds x (map (λ z. add z c) b) (differs-map v (λ z. add z c) (keeps c) b s.below s.differs) ∙ sum_by-map (λ z. one (z == x)) (λ z. add z c) b
 
   -- the translates of a block hold x and x + d as often as d is a difference of the block
   block_covers : (x d : ℕ) → x < v → d < v → (b : List ℕ) → IsPointSet v Size b → cover (translates_below v add b) x (add x d) ≡ sum_by (λ p. sum_by (λ q. one (add p d == q)) b) b

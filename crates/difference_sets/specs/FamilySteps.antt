@@ -6,9 +6,10 @@ use Rattle.counting.specs.Search.{is_among, ◌<=◌}
 use Rattle.design_base.specs.Canonical.{canonical}
 use Rattle.design_base.specs.Fields.{has_field}
 use Rattle.design_base.specs.Meets.{Meets}
+use Rattle.design_base.specs.Same.{same_group}
 use Rattle.design_base.specs.Steps.{Step}
 use Rattle.design_base.specs.declared.query.Group.{Group}
-use Rattle.design_base.specs.declared.query.Group.TheVariants.{Cyclic, Field}
+use Rattle.design_base.specs.declared.query.Group.TheVariants.{Field}
 use Rattle.design_base.specs.declared.query.Query.{Query}
 use Rattle.design_base.specs.declared.query.Query.TheVariants.{Df}
 use Rattle.design_base.specs.declared.rule.Rule.{Rule}
@@ -18,11 +19,6 @@ use Rattle.difference_sets.specs.Families.{step_blocks}
 use Rattle.difference_sets.specs.Listed.{Family, families, family_at}
 use Rattle.difference_sets.specs.declared.powers.PowerRow.{PowerRow}
 use Rattle.difference_sets.specs.declared.powers.TheConstants.{POWER_ROWS}
-
-abbrev pub same_group : Group → Group → Bool
-same_group Cyclic Cyclic = true
-same_group Field Field = true
-same_group g h = false
 
 -- the family is over this group, and has these numbers
 abbrev pub is_family_over : Family → Group → ℕ → ℕ → ℕ → Bool
