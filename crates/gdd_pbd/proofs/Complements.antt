@@ -1,10 +1,10 @@
 -- The complements of the blocks of a BIBD, and all points but one.
 use Rattle.std.proofs.Common.{Bool, List, ap, ap₂, arith, false, inl, inr, length, not, refl, subst, sym, true, ℕ, ◌%◌, ◌&&◌, ◌*◌, ◌+◌, ◌-◌, ◌/◌, ◌<◌, ◌==◌, ◌∙◌, ◌≡◌, ◌≤◌}
-use Rattle.std.proofs.Math.Nat.{div-add-mod', eq_of_mul-eq-mul_right, mul-pos}
+use Rattle.std.proofs.Math.Nat.{eq_of_mul-eq-mul_right, mul-pos}
 use Rattle.counting.proofs.Booleans.{both_equal, cases_lt, eqb-turn}
-use Rattle.std.proofs.lemmas.Bool.Decides.{nat_tests}
 use Rattle.std.proofs.lemmas.List.Elements.{All-from_recursion}
 use Rattle.counting.proofs.Counts.{count_equal, one-false, sum_below-add, sum_below-const, sum_below-same}
+use Rattle.counting.proofs.Division.{whole_times}
 use Rattle.counting.proofs.Lists.{All-map_of, each_all, sum_by-add, sum_by-length, sum_by-map, sum_by-same}
 use Rattle.counting.proofs.Ranges.{each_below}
 use Rattle.counting.specs.Sums.{one}
@@ -147,10 +147,7 @@ complement_is_bibd D v k l r b j two few big blocks shift design =
 
 pub complement_of : (D : List (List ℕ)) (v k l : ℕ) → 2 ≤ k → k + 2 ≤ v → l * (v - 1) % (k - 1) ≡ 0 → v * (l * (v - 1) / (k - 1)) % k ≡ 0 →
     (j : ℕ) → j + 2 * (l * (v - 1) / (k - 1)) ≡ v * (l * (v - 1) / (k - 1)) / k + l → IsBibd D v (v - k) j → IsBibd (canonical (complement v D)) v k l
-complement_of D v k l two few first second j shift design = complement_is_bibd D v k l (l * (v - 1) / (k - 1)) (v * (l * (v - 1) / (k - 1)) / k) j two few (whole (l * (v - 1)) (k - 1) first) (whole (v * (l * (v - 1) / (k - 1))) k second) shift design
-  where
-    whole : (a b : ℕ) → a % b ≡ 0 → a / b * b ≡ a
-    whole a b e = omega (arith, div-add-mod' a b, e)
+complement_of D v k l two few first second j shift design = complement_is_bibd D v k l (l * (v - 1) / (k - 1)) (v * (l * (v - 1) / (k - 1)) / k) j two few (whole_times (l * (v - 1)) (k - 1) first) (whole_times (v * (l * (v - 1) / (k - 1))) k second) shift design
 
 -- ---- all points but one
 module _ (v : ℕ) (two : 2 ≤ v) where
@@ -187,5 +184,5 @@ module _ (v : ℕ) (two : 2 ≤ v) where
 -- rule omit
 pub omit_is_bibd : (v l : ℕ) → 3 ≤ v → l % (v - 2) ≡ 0 → IsBibd (canonical (omit_blocks v l)) v (v - 1) l
 unfolding omitted
-omit_is_bibd v l three whole = design_same _ v (λ s. s ≡ v - 1) (λ s. s ≡ v - 1) (λ x y. l / (v - 2) * (v - 2)) (λ x y. l) (λ s e. e) (λ x y a b. omega (arith, div-add-mod' l (v - 2), whole))
+omit_is_bibd v l three whole = design_same _ v (λ s. s ≡ v - 1) (λ s. s ≡ v - 1) (λ x y. l / (v - 2) * (v - 2)) (λ x y. l) (λ s e. e) (λ x y a b. whole_times l (v - 2) whole)
     (design_from_loose v (λ s. s ≡ v - 1) _ (λ x y. l / (v - 2) * (v - 2)) (loose_times (all_but_one v v) v (l / (v - 2)) (v - 2) (λ s. s ≡ v - 1) (but_one_loose v (omega arith))))

@@ -18,11 +18,11 @@ use Rattle.design_base.specs.Arrays.{place}
 use Rattle.gdd_pbd.specs.Deleting.{below_point, delete_last, group_in, groups_at, place_in, rank_in, renamed_rest}
 use Rattle.counting.proofs.Counts.{one-true, one-false, sum_below-const}
 use Rattle.design_base.proofs.Cover.{cover-is, cover-turn}
-use Rattle.design_base.proofs.Canonical.{IsPointSet, IsLoose, design_from_loose, loose_from_design}
+use Rattle.design_base.proofs.Canonical.{IsLoose, IsPointSet, KeepsApart, design_from_loose, loose_from_design}
 use Rattle.design_base.proofs.Places.{same_place, place-below, by_places, across-apart, across-inside}
 use Rattle.gdd_pbd.proofs.Dropped.{cut_length}
 use Rattle.block_counts.proofs.Flags.{companions, lengths_at}
-use Rattle.gdd_pbd.proofs.Renamed.{KeepsApart, cover-rename, sets-rename}
+use Rattle.gdd_pbd.proofs.Renamed.{cover-rename, sets-rename}
 use Rattle.counting.proofs.Lists.{one-and, sum_by-agree, sum_by-same, sum_by-map, all_filter, each_all, All-map_of}
 
 module _ (g u : ℕ) (B : List (List ℕ)) (pos : 0 < g) (bibd : IsBibd B (g * u + 1) (g + 1) 1) where

@@ -1,6 +1,7 @@
 -- The points of a BIBD over the groups that the blocks through its last point are.
 use Rattle.std.proofs.Common.{Bool, List, None, Some, ap, arith, inl, inr, length, not, subst, sym, ℕ, ◌%◌, ◌*◌, ◌+◌, ◌-◌, ◌/◌, ◌<◌, ◌∙◌, ◌≡◌, ◌≤◌}
-use Rattle.std.proofs.Math.Nat.{div-add-mod', mul-div_cancel_left}
+use Rattle.std.proofs.Math.Nat.{mul-div_cancel_left, mul_comm}
+use Rattle.counting.proofs.Division.{whole_times}
 use Rattle.std.proofs.lemmas.List.Elements.{All-from_recursion, All-weaker, recursion_from_All}
 use Rattle.std.specs.List.{position_or_len}
 use Rattle.counting.proofs.Booleans.{cases_lt}
@@ -81,7 +82,7 @@ module _ (g u : ℕ) (B : List (List ℕ)) (can : CanDeleteLast g u B) where
 
 -- all points are those of the groups of k - 1, and one more
 pub points_of_groups : (v k : ℕ) → 1 ≤ v → (v - 1) % (k - 1) ≡ 0 → v ≡ (k - 1) * ((v - 1) / (k - 1)) + 1
-points_of_groups v k some whole = omega (arith, div-add-mod' (v - 1) (k - 1), whole, some)
+points_of_groups v k some whole = omega (arith, whole_times (v - 1) (k - 1) whole, some, mul_comm (k - 1) ((v - 1) / (k - 1)))
 
 -- and u groups and one point more leave u groups
 pub groups_of_points : (k u : ℕ) → 2 ≤ k → ((k - 1) * u + 1 - 1) / (k - 1) ≡ u

@@ -5,12 +5,12 @@ use Rattle.std.proofs.lemmas.Bool.Decides.{nat_tests}
 use Rattle.std.proofs.lemmas.List.Sums.{length-filter}
 use Rattle.std.specs.List.{AllByRecursion}
 use Rattle.std.specs.Prelude.{filter, nat_lt}
-use Rattle.counting.proofs.Lists.{All-map_of, all_filter, each-weaker, sum_by-add, sum_by-agree, sum_by-length, sum_by-map, sum_by-same}
+use Rattle.counting.proofs.Lists.{All-map_of, all_filter, each-weaker, each_all, sum_by-add, sum_by-length, sum_by-map, sum_by-same}
 use Rattle.counting.specs.Sums.{one}
 use Rattle.design_base.proofs.Canonical.{Differs, IsLoose, IsPointSet, design_from_loose, loose_from_design}
 use Rattle.design_base.proofs.Cover.{cover-is}
 use Rattle.design_base.proofs.Points.{differs_filter, holds-filter, one-holds}
-use Rattle.design_base.specs.Blocks.{IsBibd, IsPbd, holds}
+use Rattle.design_base.specs.Blocks.{IsBibd, IsPbd, cover, holds}
 use Rattle.design_base.specs.Canonical.{canonical}
 use Rattle.gdd_pbd.specs.Deleting.{below_point}
 
@@ -29,16 +29,20 @@ cut_length v b differs below = omega (
     either : (z : ℕ) → z < v + 1 → one (nat_lt z v) + one (z == v) ≡ 1
     either z l = grind (arith, nat_tests)
 
+-- the points that are left stand together as before
+pub cover-below_point : (v : ℕ) (B : List (List ℕ)) (x y : ℕ) → x < v → y < v → cover (below_point v B) x y ≡ cover B x y
+unfolding below_point
+cover-below_point v B x y l m = cover-is (below_point v B) x y ∙ sum_by-map (λ b. one (holds x b && holds y b)) (filter (λ z. nat_lt z v)) B
+    ∙ sum_by-same (λ b. one (holds x (filter (λ z. nat_lt z v) b) && holds y (filter (λ z. nat_lt z v) b))) (λ b. one (holds x b && holds y b)) B
+    (each_all _ (λ b. ap₂ (λ p q. one (p && q)) (holds-filter (λ z. nat_lt z v) x b (lt-ltb x v l)) (holds-filter (λ z. nat_lt z v) y b (lt-ltb y v m))) B)
+    ∙ sym (cover-is B x y)
+
 module _ (v s : ℕ) where
   abbrev Sizes : ℕ → Type 0
   Sizes z = (z ≡ s) ⊎ (z ≡ s + 1)
 
   cut : List ℕ → List ℕ
   cut b = filter (λ x. nat_lt x v) b
-
-  holds-cut : (x : ℕ) (b : List ℕ) → x < v → holds x (cut b) ≡ holds x b
-  unfolding cut
-  holds-cut x b l = holds-filter (λ x. nat_lt x v) x b (lt-ltb x v l)
 
   cut_set : (b : List ℕ) → IsPointSet (v + 1) (λ z. z ≡ s + 1) b → IsPointSet v Sizes (cut b)
   unfolding cut one
@@ -56,9 +60,7 @@ module _ (v s : ℕ) where
   unfolding below_point cut
   cut_loose B d = record {
     blocks = All-map_of (IsPointSet (v + 1) (λ z. z ≡ s + 1)) (IsPointSet v Sizes) cut B d.blocks cut_set;
-    pairs = λ x y l m. cover-is (below_point v B) x y ∙ sum_by-map (λ b. one (holds x b && holds y b)) cut B
-        ∙ sum_by-agree (IsPointSet (v + 1) (λ z. z ≡ s + 1)) (λ b. one (holds x (cut b) && holds y (cut b))) (λ b. one (holds x b && holds y b)) B d.blocks (λ b t. ap₂ (λ p q. one (p && q)) (holds-cut x b (omega arith)) (holds-cut y b m))
-        ∙ sym (cover-is B x y) ∙ d.pairs x y l (omega arith);
+    pairs = λ x y l m. cover-below_point v B x y (omega arith) m ∙ d.pairs x y l (omega arith);
   }
 
 -- rule delete of a PBD

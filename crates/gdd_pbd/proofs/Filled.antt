@@ -1,6 +1,6 @@
 -- Filling the groups of a GDD.
 use Rattle.std.proofs.Common.{List, ap, ap₂, arith, cond, inl, inr, refl, subst, sym, ℕ, ◌*◌, ◌+◌, ◌/◌, ◌<◌, ◌==◌, ◌∙◌, ◌≡◌, ◌≢◌, ◌⊎◌}
-use Rattle.std.proofs.Math.Nat.{mul-add-div_right, mul_comm}
+use Rattle.std.proofs.Math.Nat.{mul-add-div_right, mul_assoc, mul_comm}
 use Rattle.std.proofs.lemmas.Nat.{div_below}
 use Rattle.counting.proofs.Booleans.{bool_same, cases_eq, eq-eqb, eqb-true, ne_eqb}
 use Rattle.std.proofs.lemmas.List.Elements.{All-append}
@@ -12,10 +12,10 @@ use Rattle.design_base.specs.Arrays.{place}
 use Rattle.gdd_pbd.specs.Filling.{rename, fill}
 use Rattle.counting.proofs.Counts.{sum_below-at, sum_below-zero}
 use Rattle.design_base.proofs.Cover.{cover-append, cover-join_below, cover-turn}
-use Rattle.design_base.proofs.Canonical.{IsLoose, IsPointSet, design_from_loose, loose_from_design}
+use Rattle.design_base.proofs.Canonical.{IsLoose, IsPointSet, KeepsApart, design_from_loose, loose_from_design}
 use Rattle.counting.proofs.Ranges.{All-join_below}
 use Rattle.design_base.proofs.Places.{same_place, place-below, place-rises, place-rises_inside, by_places, across-apart, across-inside}
-use Rattle.gdd_pbd.proofs.Renamed.{KeepsApart, cover-rename, cover-rename_none, sets-rename}
+use Rattle.gdd_pbd.proofs.Renamed.{cover-rename, cover-rename_none, sets-rename}
 
 -- groups of g points filled with a design: `inner x y` for two points of one group, which the whole design wants as `outer`; points of
 -- different groups stand together once. `Size` may be that of a BIBD, of a PBD or of a GDD
@@ -110,9 +110,6 @@ across-different g c j k x y pos l m n = ap (λ t. cond t 0 1) (ne_eqb ((j * (g 
 
 -- rule split: a GDD of h groups of g * c points, and a GDD of c groups of g points
 pub split_is_gdd : (g c h k : ℕ) (G D : List (List ℕ)) → 0 < g → 0 < c → IsGdd G k (g * c) h → IsGdd D k g c → IsGdd (canonical (fill (g * c) h G D)) k g (c * h)
-split_is_gdd g c h k G D posg posc master filler = subst (λ v. IsDesign (canonical (fill (g * c) h G D)) v (λ s. s ≡ k) (across g)) (joined g c h) (design_from_loose (g * c * h) (λ s. s ≡ k) (fill (g * c) h G D) (across g)
+split_is_gdd g c h k G D posg posc master filler = subst (λ v. IsDesign (canonical (fill (g * c) h G D)) v (λ s. s ≡ k) (across g)) (mul_assoc g c h) (design_from_loose (g * c * h) (λ s. s ≡ k) (fill (g * c) h G D) (across g)
     (fill_is_loose (g * c) h (λ s. s ≡ k) G D (across g) (across g) (grind arith) (loose_from_design (g * c * h) (λ s. s ≡ k) G (across (g * c)) master) (loose_from_design (g * c) (λ s. s ≡ k) D (across g) filler)
     (λ i j x y w l m n. across-different g c i j x y posg w m n) (λ j x y l m n. across-shifted g c j x y posg)))
-  where
-    joined : (g c h : ℕ) → g * c * h ≡ g * (c * h)
-    joined g c h = omega arith

@@ -14,11 +14,11 @@ use Rattle.gdd_pbd.specs.Filling.{fill_with_point, rename, with_point}
 use Rattle.counting.proofs.Counts.{sum_below-at, sum_below-zero, one-false}
 use Rattle.counting.proofs.Lists.{each-weaker, sum_by-none}
 use Rattle.design_base.proofs.Cover.{cover-is, cover-append, cover-join_below, cover-turn}
-use Rattle.design_base.proofs.Canonical.{IsPointSet, IsLoose, design_from_loose, loose_from_design}
+use Rattle.design_base.proofs.Canonical.{IsLoose, IsPointSet, KeepsApart, design_from_loose, loose_from_design}
 use Rattle.counting.proofs.Ranges.{All-join_below}
 use Rattle.design_base.proofs.Places.{same_place, place-below, place-rises, place-rises_inside, place_of, by_places, across-apart, across-inside}
 use Rattle.design_base.proofs.Points.{each_at}
-use Rattle.gdd_pbd.proofs.Renamed.{KeepsApart, cover-rename, cover-rename_none, sets-rename}
+use Rattle.gdd_pbd.proofs.Renamed.{cover-rename, cover-rename_none, sets-rename}
 
 pub with_point-below : (g u j p : ℕ) → p < g → with_point g u j p ≡ place g j p
 unfolding with_point
@@ -71,10 +71,6 @@ module _ (g u : ℕ) (Size : ℕ → Type 0) (G D : List (List ℕ)) (pos : 0 < 
     | inr a ↦ omega (arith, same_place g u c 0 x pos l (sym (with_point-last g u j z a) ∙ e))
   ])
 
-  turned : (j p q : ℕ) → copies p q j ≡ copies q p j
-  unfolding copies
-  turned j p q = cover-turn (rename (with_point g u j) D) p q
-
   own : (j x y : ℕ) → j < u → x < y → y < g + 1 → copies (with_point g u j x) (with_point g u j y) j ≡ 1
   unfolding copies
   own j x y l lx ly = cover-rename (g + 1) (g * u + 1) Size (with_point g u j) D design.blocks (keeps j l) x y (omega arith) ly ∙ design.pairs x y lx ly
@@ -91,13 +87,14 @@ module _ (g u : ℕ) (Size : ℕ → Type 0) (G D : List (List ℕ)) (pos : 0 < 
   )
 
   apart : (c d x y : ℕ) → c < d → d < u → x < g → y < g → cover (fill_with_point g u G D) (place g c x) (place g d y) ≡ 1
+  unfolding copies
   apart c d x y w l m n = omega (
     arith,
     whole (place g c x) (place g d y),
     gdd.pairs (place g c x) (place g d y) (place-rises g c d x y w m) (omega (arith, place-below g u d y l n)),
     across-apart g c x d y m n (omega arith),
     sum_below-zero u (copies (place g c x) (place g d y)) (λ j k. elim (cases_eq j c) [
-      | inl e ↦ turned j (place g c x) (place g d y) ∙ away j d y (place g c x) l n (omega arith)
+      | inl e ↦ cover-turn (rename (with_point g u j) D) (place g c x) (place g d y) ∙ away j d y (place g c x) l n (omega arith)
       | inr ne ↦ away j c x (place g d y) (omega arith) m ne
     ]),
   )

@@ -1,8 +1,9 @@
 -- What the conditions of fillings give: room for the loops, the blocks, and the design.
 use Rattle.std.proofs.Common.{List, ap, arith, subst, sym, ℕ, ◌*◌, ◌++◌, ◌%◌, ◌+◌, ◌/◌, ◌<◌, ◌∙◌, ◌≡◌, ◌≤◌, suc, zero}
-use Rattle.std.proofs.Math.Nat.{div-add-mod', mul_comm}
+use Rattle.std.proofs.Math.Nat.{mul_assoc, mul_comm}
 use Rattle.std.proofs.lemmas.List.Elements.{All-weaker}
 use Rattle.std.proofs.lemmas.Nat.{mul-le}
+use Rattle.counting.proofs.Division.{whole_times}
 use Rattle.std.specs.Prelude.{All}
 use Rattle.design_base.specs.Blocks.{IsBibd, IsGdd, IsPbd}
 use Rattle.design_base.specs.Canonical.{canonical}
@@ -57,7 +58,7 @@ module _ (k g u : ℕ) (G D : List (List ℕ)) (can : CanFillWithPoint k g u G D
 
 -- a whole number of parts
 parts_of : (u c : ℕ) → u % c ≡ 0 → c * (u / c) ≡ u
-parts_of u c e = omega (arith, div-add-mod' u c, e)
+parts_of u c e = mul_comm c (u / c) ∙ whole_times u c e
 
 pub positive : (a b c : ℕ) → a * b ≡ c → 0 < c → 0 < b
 positive a zero c e pos = absurd (omega arith)
@@ -65,10 +66,7 @@ positive a (suc b) c e pos = omega arith
 
 module _ (k g u c : ℕ) (G D : List (List ℕ)) (can : CanSplit k g u c G D) where
   area : g * c * (u / c) ≡ g * u
-  area = regroup g c (u / c) ∙ ap (λ n. g * n) (parts_of u c can.whole)
-    where
-      regroup : (g c h : ℕ) → g * c * h ≡ g * (c * h)
-      regroup g c h = omega arith
+  area = mul_assoc g c (u / c) ∙ ap (λ n. g * n) (parts_of u c can.whole)
 
   inner_points : g * c ≤ POINTS_MAX
   inner_points = omega (arith, can.points, area, factor (u / c) (g * c) (positive c (u / c) u (parts_of u c can.whole) can.groups))

@@ -1,9 +1,9 @@
 -- The steps of the loops that write blocks: what there is before the first, and what one more adds.
-use Rattle.std.proofs.Common.{Bool, List, Some, [], add-one, ap, ap₂, arith, cond, false, inl, inr, length, map, not, refl, slice_set, subst, suc, sym, take, true, zero, ℕ, ◌*◌, ◌++◌, ◌+◌, ◌<◌, ◌==◌, ◌∙◌, ◌∷◌, ◌≡◌, ◌≢◌, ◌≤◌, get_or}
+use Rattle.std.proofs.Common.{Bool, List, Some, [], ap, ap₂, arith, cond, false, inl, inr, length, map, not, refl, slice_set, suc, sym, take, true, zero, ℕ, ◌*◌, ◌++◌, ◌+◌, ◌<◌, ◌==◌, ◌∙◌, ◌∷◌, ◌≡◌, ◌≢◌, ◌≤◌, get_or}
 use Rattle.std.proofs.Math.Nat.{mul-le-mul_right}
 use Rattle.counting.proofs.Booleans.{cases_Bool, cond-false, cond-true, eq-eqb, le-ltb, lt-ltb, ne_eqb}
 use Rattle.std.proofs.lemmas.Bool.Decides.{nat_tests}
-use Rattle.std.proofs.lemmas.List.{append-nil, append_assoc, get_or-map, map-append, take_more, take_more_set}
+use Rattle.std.proofs.lemmas.List.{append-nil, append_assoc, map-append, take_more, take_more_set}
 use Rattle.std.proofs.lemmas.List.Elements.{All-from_recursion, filter-append}
 use Rattle.std.specs.Prelude.{All, filter, nat_lt, slice_get}
 use Rattle.incidence.proofs.Walk.{take_next}

@@ -1,11 +1,11 @@
 -- A transversal design with one truncated group, its groups filled, is a pairwise balanced design.
-use Rattle.std.proofs.Common.{None, Option, Some, ◌≡◌, ℕ, ◌+◌, ◌*◌, ◌<◌, ◌≤◌, ◌≢◌, List, ◌⊎◌, refl, ap, ap₂, subst, sym, ◌∙◌, arith, inl, inr, ◌&&◌, length, map, get_or, add-one}
+use Rattle.std.proofs.Common.{None, Option, Some, ◌≡◌, ℕ, ◌+◌, ◌*◌, ◌<◌, ◌≤◌, ◌≢◌, List, ◌⊎◌, refl, ap, subst, sym, ◌∙◌, arith, inl, inr, length, map, get_or, add-one}
 use Rattle.std.specs.Prelude.{All, filter, nat_lt}
 use Rattle.counting.proofs.Booleans.{cases_eq, cases_lt, lt-ltb, ltb-true}
 use Rattle.std.proofs.lemmas.List.Elements.{All-append, All-nil}
 use Rattle.std.proofs.lemmas.List.Sums.{length-filter}
 use Rattle.counting.specs.Sums.{one, sum_below, join_below, list_below}
-use Rattle.design_base.specs.Blocks.{holds, cover, IsTd, IsPbd}
+use Rattle.design_base.specs.Blocks.{cover, IsTd, IsPbd}
 use Rattle.design_base.specs.Canonical.{canonical}
 use Rattle.design_base.specs.Arrays.{place, row_block, blocks_of_rows, rows_of_blocks, IsRow, IsOa}
 use Rattle.gdd_pbd.specs.Filling.{rename}
@@ -13,14 +13,15 @@ use Rattle.gdd_pbd.specs.Conditions.{FitsLast}
 use Rattle.gdd_pbd.specs.Deleting.{below_point}
 use Rattle.gdd_pbd.specs.Truncating.{last_group, truncated}
 use Rattle.counting.proofs.Counts.{sum_below-suc, sum_below-same, sum_below-const, sum_below-at, sum_below-zero, one-true, one-false}
-use Rattle.counting.proofs.Lists.{sum_by-same, sum_by-map, sum_by-join_below, sum_by-single, each_all, All-map_of}
-use Rattle.design_base.proofs.Cover.{cover-is, cover-append, cover-join_below, cover-turn, cover-none}
-use Rattle.design_base.proofs.Canonical.{IsPointSet, IsLoose, differs_below, design_from_loose, loose_from_design}
+use Rattle.counting.proofs.Lists.{sum_by-join_below, sum_by-single, each_all, All-map_of}
+use Rattle.design_base.proofs.Cover.{cover-append, cover-join_below, cover-turn, cover-none}
+use Rattle.design_base.proofs.Canonical.{IsLoose, IsPointSet, KeepsApart, design_from_loose, differs_below, loose_from_design}
 use Rattle.counting.proofs.Ranges.{All-join_below}
 use Rattle.design_base.proofs.Places.{same_place, place-below, place-rises, place-rises_inside, by_places, across-apart, across-inside}
-use Rattle.gdd_pbd.proofs.Renamed.{KeepsApart, cover-rename, cover-rename_none, sets-rename}
+use Rattle.gdd_pbd.proofs.Dropped.{cover-below_point}
+use Rattle.gdd_pbd.proofs.Renamed.{cover-rename, cover-rename_none, sets-rename}
 use Rattle.counting.proofs.Lists.{all_filter}
-use Rattle.design_base.proofs.Points.{differs_filter, holds-filter}
+use Rattle.design_base.proofs.Points.{differs_filter}
 use Rattle.design_base.proofs.Groups.{blocks_of_rows_of_blocks, oa_from_td}
 
 place-is : (n i x : ℕ) → place n i x ≡ i * n + x
@@ -90,11 +91,8 @@ module _ (s t u : ℕ) (T P : List (List ℕ)) (rest : Option (List (List ℕ)))
           (λ b h. h)
 
   kept_cover : (p q : ℕ) → p < s * t + u → q < s * t + u → cover kept p q ≡ cover T p q
-  unfolding kept
-  kept_cover p q l m = cover-is (map (filter (λ x. nat_lt x (s * t + u))) T) p q ∙ sum_by-map (λ b. one (holds p b && holds q b)) (filter (λ x. nat_lt x (s * t + u))) T
-      ∙ sum_by-same _ _ T (each_all (λ b. one (holds p (filter (λ x. nat_lt x (s * t + u)) b) && holds q (filter (λ x. nat_lt x (s * t + u)) b)) ≡ one (holds p b && holds q b)) (λ b.
-      ap₂ (λ x y. one (x && y)) (holds-filter (λ x. nat_lt x (s * t + u)) p b (lt-ltb p (s * t + u) l)) (holds-filter (λ x. nat_lt x (s * t + u)) q b (lt-ltb q (s * t + u) m))) T)
-      ∙ sym (cover-is T p q)
+  unfolding kept below_point
+  kept_cover p q l m = cover-below_point (s * t + u) T p q l m
 
   -- ---- the fillers
   copies : ℕ → ℕ → ℕ → ℕ
@@ -111,11 +109,8 @@ module _ (s t u : ℕ) (T P : List (List ℕ)) (rest : Option (List (List ℕ)))
   unfolding truncated kept copies below_point
   whole p q = cover-append _ _ p q ∙ ap (λ n. cover kept p q + n) (cover-append _ _ p q ∙ ap (λ n. n + cover last p q) (cover-join_below s (λ j. rename (place t j) P) p q))
 
-  turned : (j p q : ℕ) → copies p q j ≡ copies q p j
-  unfolding copies
-  turned j p q = cover-turn (rename (place t j) P) p q
-
   apart : (c d x y : ℕ) → c < d → d < s + 1 → x < t → y < t → place t d y < s * t + u → cover (truncated s t u T P rest) (place t c x) (place t d y) ≡ 1
+  unfolding copies
   apart c d x y l m lx ly h = omega (
     arith,
     whole (place t c x) (place t d y),
@@ -123,7 +118,7 @@ module _ (s t u : ℕ) (T P : List (List ℕ)) (rest : Option (List (List ℕ)))
     td.pairs (place t c x) (place t d y) (place-rises t c d x y l lx) (omega (arith, place-below t (s + 1) d y m ly)),
     across-apart t c x d y lx ly (omega arith),
     sum_below-zero s (copies (place t c x) (place t d y)) (λ j k. elim (cases_eq j c) [
-      | inl e ↦ turned j (place t c x) (place t d y) ∙ away j d y (place t c x) ly (omega arith)
+      | inl e ↦ cover-turn (rename (place t j) P) (place t c x) (place t d y) ∙ away j d y (place t c x) ly (omega arith)
       | inr ne ↦ away j c x (place t d y) lx ne
     ]),
     last_away s t u rest fits small c x (place t d y) lx (omega arith),

@@ -1,6 +1,7 @@
 -- What the conditions of weights give.
 use Rattle.std.proofs.Common.{List, [], ap, ap₂, arith, inl, inr, length, refl, subst, sym, ℕ, ◌*◌, ◌++◌, ◌+◌, ◌/◌, ◌<◌, ◌∙◌, ◌∷◌, ◌≡◌, ◌≢◌, ◌≤◌, ◌⊎◌}
-use Rattle.std.proofs.Math.Nat.{div-add-mod', mul_comm}
+use Rattle.std.proofs.Math.Nat.{mul_comm}
+use Rattle.counting.proofs.Division.{whole_times}
 use Rattle.counting.proofs.Booleans.{cases_eq}
 use Rattle.std.proofs.lemmas.List.Elements.{All-weaker}
 use Rattle.std.specs.Prelude.{All}
@@ -50,7 +51,7 @@ weighted_same w s (b ∷ G) D = ap₂ (λ xs ys. rename (place_by w b) xs ++ ys)
 
 module _ (k g u w s : ℕ) (G D : List (List ℕ)) (can : CanWeight k g u w s G D) where
   parts : g / w * w ≡ g
-  parts = omega (arith, div-add-mod' g w, can.whole)
+  parts = whole_times g w can.whole
 
   all_points : g / w * u * w ≤ POINTS_MAX
   all_points = omega (arith, can.points, regroup (g / w) u w, ap (λ n. n * u) parts)

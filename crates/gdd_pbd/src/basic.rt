@@ -13,7 +13,7 @@ use std::alloc::Global;
 
 // Appends the block of all points, l times.
 #[tactic(auto, using(crate::proofs::Steps::steps))]
-pub fn push_whole(rows: &mut Rows, v: u16, l: u16) -> Result<(), Memory>
+pub(crate) fn push_whole(rows: &mut Rows, v: u16, l: u16) -> Result<(), Memory>
     requires points { v ≤ POINTS_MAX }
     requires room { size_of rows.old + l * (v + 1) < PACKED_MAX }
     ensures ok { OnOk result (rows.new ≡ rows.old ++ whole_blocks v l) }

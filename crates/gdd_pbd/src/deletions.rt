@@ -165,7 +165,7 @@ fn named_rest(alloc: Global, g: u16, p: u16, groups: &Rows, design: &Rows) -> Re
 }
 
 // The blocks that miss the last point g * u of a block design, over the groups that the others are, in canonical form.
-pub fn without_last(alloc: Global, g: u16, u: u16, design: &Rows) -> Result<Rows, Memory>
+pub(crate) fn without_last(alloc: Global, g: u16, u: u16, design: &Rows) -> Result<Rows, Memory>
     requires { CanDeleteLast g u design.now }
     ensures blocks { IfOk result (λ rows. rows ≡ canonical (delete_last g u design.now)) }
     ensures design { IfOk result (λ rows. IsGdd rows (g + 1) g u) }

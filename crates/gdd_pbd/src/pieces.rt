@@ -12,7 +12,7 @@ use incidence::Rows;
 
 // Whether x stands in the block.
 #[tactic(auto, unfolding(design_base::specs::Blocks::holds))]
-pub fn holds(block: &[u16], x: u16) -> bool
+pub(crate) fn holds(block: &[u16], x: u16) -> bool
     ensures { result ≡ holds_point x block.now }
 {
     block.contains(&x)
@@ -20,7 +20,7 @@ pub fn holds(block: &[u16], x: u16) -> bool
 
 // Appends the rows of a list.
 #[tactic(auto, using(crate::proofs::Steps::steps))]
-pub fn push_all(rows: &mut Rows, list: &Rows) -> Result<(), Memory>
+pub(crate) fn push_all(rows: &mut Rows, list: &Rows) -> Result<(), Memory>
     requires room { size_of rows.old + size_of list.now < PACKED_MAX }
     ensures ok { OnOk result (rows.new ≡ rows.old ++ list.now) }
     ensures size { OnOk result (size_of rows.new ≡ size_of rows.old + size_of list.now) }
@@ -33,7 +33,7 @@ pub fn push_all(rows: &mut Rows, list: &Rows) -> Result<(), Memory>
 
 // Appends the points below v that are not in the block.
 #[tactic(auto, using(crate::proofs::Steps::steps))]
-pub fn push_missing(rows: &mut Rows, v: u16, block: &[u16]) -> Result<(), Memory>
+pub(crate) fn push_missing(rows: &mut Rows, v: u16, block: &[u16]) -> Result<(), Memory>
     requires points { v ≤ POINTS_MAX }
     requires room { size_of rows.old + v + 1 < PACKED_MAX }
     ensures ok { OnOk result (rows.new ≡ rows.old ++ missing v block.now ∷ []) }
@@ -52,7 +52,7 @@ pub fn push_missing(rows: &mut Rows, v: u16, block: &[u16]) -> Result<(), Memory
 
 // Appends the complement of each block.
 #[tactic(auto, using(crate::proofs::Steps::steps))]
-pub fn push_complements(rows: &mut Rows, v: u16, design: &Rows) -> Result<(), Memory>
+pub(crate) fn push_complements(rows: &mut Rows, v: u16, design: &Rows) -> Result<(), Memory>
     requires points { v ≤ POINTS_MAX }
     requires room { size_of rows.old + (POINTS_MAX + 1) * length design.now < PACKED_MAX }
     ensures ok { OnOk result (rows.new ≡ rows.old ++ complement v design.now) }
@@ -65,7 +65,7 @@ pub fn push_complements(rows: &mut Rows, v: u16, design: &Rows) -> Result<(), Me
 
 // Appends the points of the block that are below v.
 #[tactic(auto, using(crate::proofs::Steps::steps))]
-pub fn push_front(rows: &mut Rows, v: u16, block: &[u16]) -> Result<(), Memory>
+pub(crate) fn push_front(rows: &mut Rows, v: u16, block: &[u16]) -> Result<(), Memory>
     requires few { length block.now ≤ POINTS_MAX }
     requires room { size_of rows.old + length block.now + 1 < PACKED_MAX }
     ensures ok { OnOk result (rows.new ≡ rows.old ++ filter (λ x. nat_lt x v) block.now ∷ []) }
@@ -84,7 +84,7 @@ pub fn push_front(rows: &mut Rows, v: u16, block: &[u16]) -> Result<(), Memory>
 
 // Appends of each block the points below v.
 #[tactic(auto, using(crate::proofs::Steps::steps))]
-pub fn push_fronts(rows: &mut Rows, v: u16, design: &Rows) -> Result<(), Memory>
+pub(crate) fn push_fronts(rows: &mut Rows, v: u16, design: &Rows) -> Result<(), Memory>
     requires few { All IsShort design.now }
     requires room { size_of rows.old + size_of design.now < PACKED_MAX }
     ensures ok { OnOk result (rows.new ≡ rows.old ++ below_point v design.now) }
@@ -126,7 +126,12 @@ fn push_copy(rows: &mut Rows, w: u16, block: &[u16], piece: &[u16]) -> Result<()
 
 // Appends the blocks of a design, their points renamed.
 #[tactic(auto, using(crate::proofs::Steps::steps))]
-pub fn push_copies(rows: &mut Rows, w: u16, block: &[u16], design: &Rows) -> Result<(), Memory>
+pub(crate) fn push_copies(
+    rows: &mut Rows,
+    w: u16,
+    block: &[u16],
+    design: &Rows,
+) -> Result<(), Memory>
     requires weight { (0 < w) × (w ≤ POINTS_MAX) }
     requires points { All (λ x. x * w ≤ POINTS_MAX) block.now }
     requires fits { All (FitsIn (length block.now * w)) design.now }
@@ -142,7 +147,13 @@ pub fn push_copies(rows: &mut Rows, w: u16, block: &[u16], design: &Rows) -> Res
 
 // Appends for each of the first m groups of g points the blocks of a design on the group, and on the first point of group u.
 #[tactic(auto, using(crate::proofs::Steps::steps))]
-pub fn push_in_groups(rows: &mut Rows, g: u16, u: u16, m: u16, design: &Rows) -> Result<(), Memory>
+pub(crate) fn push_in_groups(
+    rows: &mut Rows,
+    g: u16,
+    u: u16,
+    m: u16,
+    design: &Rows,
+) -> Result<(), Memory>
     requires weight { (0 < g) × (g ≤ POINTS_MAX) }
     requires groups { (u * g ≤ POINTS_MAX) × (m ≤ u) }
     requires fits { All (FitsIn (2 * g)) design.now }

@@ -48,7 +48,7 @@ fn push_over(
 
 // Appends for each block of a design the blocks of its ingredient.
 #[tactic(auto, using(crate::proofs::Steps::steps))]
-pub fn push_weighted(
+fn push_weighted(
     rows: &mut Rows,
     w: u16,
     s: u16,
