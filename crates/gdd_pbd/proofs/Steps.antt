@@ -3,7 +3,7 @@ use Rattle.std.proofs.Common.{Bool, List, Some, [], ap, ap₂, arith, cond, fals
 use Rattle.std.proofs.Math.Nat.{mul-le-mul_right}
 use Rattle.counting.proofs.Booleans.{cases_Bool, cond-false, cond-true, eq-eqb, le-ltb, lt-ltb, ne_eqb}
 use Rattle.std.proofs.lemmas.Bool.Decides.{nat_tests}
-use Rattle.std.proofs.lemmas.List.{append-nil, append_assoc, map-append, take_more, take_more_set}
+use Rattle.std.proofs.lemmas.List.{append-nil, append_assoc, length-map, map-append, take_more, take_more_set}
 use Rattle.std.proofs.lemmas.List.Elements.{All-from_recursion, filter-append}
 use Rattle.std.specs.Prelude.{All, filter, nat_lt, slice_get}
 use Rattle.incidence.proofs.Walk.{take_next}
@@ -11,8 +11,9 @@ use Rattle.counting.proofs.Counts.{join_below_more, join_below_none}
 use Rattle.counting.specs.Sums.{join_below, list_below}
 use Rattle.design_base.specs.Blocks.{holds}
 use Rattle.incidence.proofs.Sizes.{size_of-append, size_of-cons}
+use Rattle.incidence.specs.Packed.{size_of}
 use Rattle.gdd_pbd.specs.Deleting.{below_point, groups_at, renamed_rest}
-use Rattle.gdd_pbd.specs.Weighting.{chosen, weighted}
+use Rattle.gdd_pbd.specs.Weighting.{chosen}
 use Rattle.gdd_pbd.specs.Filling.{groups_of, place_by, rename}
 use Rattle.gdd_pbd.specs.Basic.{all_but_one, complement, kept, missing, omitted, pair_blocks, pairs_once, pairs_with, whole_blocks}
 
@@ -133,27 +134,16 @@ front-kept v i x b is l = ap (filter (λ x. nat_lt x v)) (take_next b i x is) �
 pub front-dropped : (v i x : ℕ) (b : List ℕ) → slice_get b i ≡ Some x → v ≤ x → filter (λ x. nat_lt x v) (take (i + 1) b) ≡ filter (λ x. nat_lt x v) (take i b)
 front-dropped v i x b is l = ap (filter (λ x. nat_lt x v)) (take_next b i x is) ∙ filter-append (λ x. nat_lt x v) (take i b) (x ∷ []) ∙ ap (λ t. filter (λ x. nat_lt x v) (take i b) ++ t) (cond-false (nat_lt x v) _ _ (le-ltb x v l)) ∙ append-nil (filter (λ x. nat_lt x v) (take i b))
 
-pub below_point-none : (v : ℕ) → below_point v [] ≡ []
-unfolding below_point
-below_point-none v = refl
-
-pub below_point-next : (v : ℕ) (b : List ℕ) (B : List (List ℕ)) → below_point v (b ∷ B) ≡ filter (λ x. nat_lt x v) b ∷ [] ++ below_point v B
-unfolding below_point
-below_point-next v b B = refl
-
 -- ---- renamed points
 pub renamed_next : (f : ℕ → ℕ) (block row : List ℕ) (j x : ℕ) → j < length row → j < length block → take j row ≡ map f (take j block) → x ≡ f (get_or block j 0) →
     take (j + 1) (slice_set row j x) ≡ map f (take (j + 1) block)
 renamed_next f block row j x l h e is = take_more_set row j x l ∙ ap₂ (λ front x. front ++ x ∷ []) e is
     ∙ sym (map-append f (take j block) (get_or block j 0 ∷ [])) ∙ ap (map f) (sym (take_more block j 0 h))
 
-pub rename-none : (f : ℕ → ℕ) → rename f [] ≡ []
-unfolding rename
-rename-none f = refl
-
-pub rename-next : (f : ℕ → ℕ) (b : List ℕ) (B : List (List ℕ)) → rename f (b ∷ B) ≡ map f b ∷ [] ++ rename f B
-unfolding rename
-rename-next f b B = refl
+-- as many as before
+pub size_of-renamed : (f : ℕ → ℕ) (B : List (List ℕ)) → size_of (map (map f) B) ≡ size_of B
+size_of-renamed f [] = refl
+size_of-renamed f (b ∷ B) = omega (arith, size_of-cons (map f b) (map (map f) B), size_of-cons b B, length-map b f, size_of-renamed f B)
 
 pub groups_of-none : (g u : ℕ) (D : List (List ℕ)) → groups_of g u D 0 ≡ []
 unfolding groups_of
@@ -163,15 +153,7 @@ pub groups_of-more : (g u m : ℕ) (D : List (List ℕ)) → groups_of g u D (m 
 unfolding groups_of
 groups_of-more g u m D = join_below_more m _
 
--- ---- blocks over the groups of other blocks
-pub weighted-none : (w : ℕ) (D : ℕ → List (List ℕ)) → weighted w D [] ≡ []
-unfolding weighted
-weighted-none w D = refl
-
-pub weighted-next : (w : ℕ) (D : ℕ → List (List ℕ)) (b : List ℕ) (G : List (List ℕ)) → weighted w D (b ∷ G) ≡ rename (place_by w b) (D (length b)) ++ weighted w D G
-unfolding weighted
-weighted-next w D b G = refl
-
+-- ---- the ingredient for a block
 pub chosen-first : (s z : ℕ) (C D : List (List ℕ)) → z ≡ s → chosen s C D z ≡ C
 unfolding chosen
 chosen-first s z C D e = cond-true (z == s) _ _ (eq-eqb z s e)
@@ -186,8 +168,8 @@ unfolding groups_at below_point
 groups_at-none p = refl
 
 pub groups_at-through : (p : ℕ) (b : List ℕ) (B : List (List ℕ)) → holds p b ≡ true → groups_at p (b ∷ B) ≡ filter (λ x. nat_lt x p) b ∷ [] ++ groups_at p B
-unfolding groups_at
-groups_at-through p b B e = ap (below_point p) (cond-true (holds p b) _ _ e) ∙ below_point-next p b (filter (λ b. holds p b) B)
+unfolding groups_at below_point
+groups_at-through p b B e = ap (below_point p) (cond-true (holds p b) _ _ e)
 
 pub groups_at-past : (p : ℕ) (b : List ℕ) (B : List (List ℕ)) → holds p b ≡ false → groups_at p (b ∷ B) ≡ groups_at p B
 unfolding groups_at
@@ -210,8 +192,8 @@ unfolding renamed_rest rename
 renamed_rest-none f p = refl
 
 pub renamed_rest-past : (f : ℕ → ℕ) (p : ℕ) (b : List ℕ) (B : List (List ℕ)) → holds p b ≡ false → renamed_rest f p (b ∷ B) ≡ map f b ∷ [] ++ renamed_rest f p B
-unfolding renamed_rest
-renamed_rest-past f p b B e = ap (rename f) (cond-true (not (holds p b)) _ _ (ap not e)) ∙ rename-next f b (filter (λ b. not (holds p b)) B)
+unfolding renamed_rest rename
+renamed_rest-past f p b B e = ap (rename f) (cond-true (not (holds p b)) _ _ (ap not e))
 
 pub renamed_rest-through : (f : ℕ → ℕ) (p : ℕ) (b : List ℕ) (B : List (List ℕ)) → holds p b ≡ true → renamed_rest f p (b ∷ B) ≡ renamed_rest f p B
 unfolding renamed_rest
@@ -229,4 +211,40 @@ renamed_rest-next f p b B = elim (cases_Bool (holds p b)) [
   | inr e ↦ renamed_rest-past f p b B e ∙ ap (λ xs. xs ++ renamed_rest f p B) (sym (renamed_rest-one f p b e))
 ]
 
-pub ruleset steps = (append-nil, append_assoc, size_of-cons, size_of-append, front_more, missing-none, missing-more, missing-same, whole-none, whole-more, pairs_with-none, pairs_with-more, pairs_once-none, pairs_once-more, pair_blocks-none, pair_blocks-more, all_but_one-none, all_but_one-more, omitted-none, omitted-more, complement-none, complement-next, front-none, front-kept, front-dropped, below_point-none, below_point-next, rename-none, rename-next, groups_of-none, groups_of-more, weighted-none, weighted-next, chosen-first, chosen-second, groups_at-none, groups_at-one, groups_at-no, groups_at-next, renamed_rest-none, renamed_rest-one, renamed_rest-no, renamed_rest-next)
+pub ruleset steps = (
+  append-nil,
+  append_assoc,
+  size_of-cons,
+  size_of-append,
+  front_more,
+  missing-none,
+  missing-more,
+  missing-same,
+  whole-none,
+  whole-more,
+  pairs_with-none,
+  pairs_with-more,
+  pairs_once-none,
+  pairs_once-more,
+  pair_blocks-none,
+  pair_blocks-more,
+  all_but_one-none,
+  all_but_one-more,
+  omitted-none,
+  omitted-more,
+  complement-none,
+  complement-next,
+  front-none,
+  front-kept,
+  front-dropped,
+  groups_of-none,
+  groups_of-more,
+  chosen-first,
+  chosen-second,
+  groups_at-none,
+  groups_at-one,
+  groups_at-no,
+  renamed_rest-none,
+  renamed_rest-one,
+  renamed_rest-no,
+)

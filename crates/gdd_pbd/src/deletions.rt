@@ -29,6 +29,8 @@ fn below(alloc: Global, p: u16, design: &Rows) -> Result<Rows, Memory>
 ///
 /// `design` has `v` points, from 1 to `POINTS_MAX`, and blocks of `s` + 1, from 2 on; two points stand together in one. The answer is
 /// `Memory` only for want of memory.
+///
+/// Handbook of Combinatorial Designs (C. J. Colbourn, J. H. Dinitz, eds., 2nd edition, 2007), IV.1.
 pub fn drop_point(alloc: Global, v: u16, s: u16, design: &Rows) -> Result<Rows, Memory>
     requires { CanDropPoint v s design.now }
     ensures blocks { IfOk result (λ rows. rows ≡ canonical (below_point (v - 1) design.now)) }

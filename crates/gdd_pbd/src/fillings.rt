@@ -28,6 +28,9 @@ fn filled(alloc: Global, g: u16, u: u16, master: &Rows, design: &Rows) -> Result
 ///
 /// `gdd` has `u` groups of `g` points, both from 1 on, and `design` has `g` points; blocks have `k` points, from 2 on. `g` `u` is at most
 /// `POINTS_MAX`. The answer is `Memory` only for want of memory.
+///
+/// D. R. Stinson, Combinatorial Designs: Constructions and Analysis (2004), chapter 7; Handbook of Combinatorial Designs (C. J. Colbourn,
+/// J. H. Dinitz, eds., 2nd edition, 2007), IV.4.
 pub fn fill(
     alloc: Global,
     k: u16,
@@ -49,6 +52,8 @@ pub fn fill(
 ///
 /// `gdd` has `u` groups of `g` points, both from 1 on, and `design` has `g` + 1 points, the last of which becomes the point more; blocks have
 /// `k` points, from 2 on. `g` `u` + 1 is at most `POINTS_MAX`. The answer is `Memory` only for want of memory.
+///
+/// D. R. Stinson, Combinatorial Designs: Constructions and Analysis (2004), chapter 7.
 pub fn fill_with_point(
     alloc: Global,
     k: u16,
@@ -70,6 +75,8 @@ pub fn fill_with_point(
 ///
 /// `master` has `u` / `c` groups of `g` `c` points, and `filler` `c` groups of `g` points; blocks have `k` points, from 2 on. `g` and `u` are
 /// from 1 on, `c` divides `u`, and `g` `u` is at most `POINTS_MAX`. The answer is `Memory` only for want of memory.
+///
+/// Handbook of Combinatorial Designs (C. J. Colbourn, J. H. Dinitz, eds., 2nd edition, 2007), IV.4.
 pub fn split(
     alloc: Global,
     k: u16,
@@ -91,6 +98,8 @@ pub fn split(
 ///
 /// `td` has `s` groups of `t` points, and `group` has `t` points and blocks of `s` or `s` + 1. `s` is from 2 and `t` from 1 on, and `s` `t` is at
 /// most `POINTS_MAX`. The answer is `Memory` only for want of memory.
+///
+/// D. R. Stinson, Combinatorial Designs: Constructions and Analysis (2004), chapter 7.
 pub fn td_fill(alloc: Global, s: u16, t: u16, td: &Rows, group: &Rows) -> Result<Rows, Memory>
     requires { CanTdFill s t td.now group.now }
     ensures blocks { IfOk result (λ rows. rows ≡ canonical (fill_of t s td.now group.now)) }
@@ -106,6 +115,8 @@ pub fn td_fill(alloc: Global, s: u16, t: u16, td: &Rows, group: &Rows) -> Result
 /// `td` has `c` groups of `t` points, and `group` has `t` + 1 points, the last of which becomes the point more, and blocks of `s` or `s` + 1.
 /// `c` is `s` or `s` + 1, `s` is from 2 and `t` from 1 on, and `c` `t` + 1 is at most `POINTS_MAX`. The answer is `Memory` only for want of
 /// memory.
+///
+/// D. R. Stinson, Combinatorial Designs: Constructions and Analysis (2004), chapter 7.
 pub fn td_fill_with_point(
     alloc: Global,
     s: u16,

@@ -83,7 +83,7 @@ pub(crate) fn push_front(rows: &mut Rows, v: u16, block: &[u16]) -> Result<(), M
 }
 
 // Appends of each block the points below v.
-#[tactic(auto, using(crate::proofs::Steps::steps))]
+#[tactic(auto, using(crate::proofs::Steps::steps), unfolding(crate::specs::Deleting::below_point))]
 pub(crate) fn push_fronts(rows: &mut Rows, v: u16, design: &Rows) -> Result<(), Memory>
     requires few { All IsShort design.now }
     requires room { size_of rows.old + size_of design.now < PACKED_MAX }
@@ -125,7 +125,7 @@ fn push_copy(rows: &mut Rows, w: u16, block: &[u16], piece: &[u16]) -> Result<()
 }
 
 // Appends the blocks of a design, their points renamed.
-#[tactic(auto, using(crate::proofs::Steps::steps))]
+#[tactic(auto, using(crate::proofs::Steps::steps), unfolding(crate::specs::Filling::rename))]
 pub(crate) fn push_copies(
     rows: &mut Rows,
     w: u16,

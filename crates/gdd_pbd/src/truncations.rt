@@ -75,7 +75,8 @@ fn cut(
 /// is no `last`. `s` and `t` are from 2 on, `u` is at most `t`, and `s` `t` + `u` at most `POINTS_MAX`. The answer is `Memory` only for want
 /// of memory.
 ///
-/// D. R. Stinson, Combinatorial Designs: Constructions and Analysis (2004), chapter 7.
+/// D. R. Stinson, Combinatorial Designs: Constructions and Analysis (2004), chapter 7; Handbook of Combinatorial Designs (C. J. Colbourn,
+/// J. H. Dinitz, eds., 2nd edition, 2007), IV.1.
 pub fn truncate_pbd(
     alloc: Global,
     s: u16,

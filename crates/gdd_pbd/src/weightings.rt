@@ -47,7 +47,7 @@ fn push_over(
 }
 
 // Appends for each block of a design the blocks of its ingredient.
-#[tactic(auto, using(crate::proofs::Steps::steps))]
+#[tactic(auto, using(crate::proofs::Steps::steps), unfolding(crate::specs::Weighting::weighted))]
 fn push_weighted(
     rows: &mut Rows,
     w: u16,
@@ -110,15 +110,15 @@ fn weighted_by_one(
     Ok(blocks)
 }
 
-/// Wilson's weighting, with one weight: each point of `master` becomes `w` points, and each block the blocks of `ingredient` on those of its
+/// Wilson's fundamental construction, with one weight: each point of `master` becomes `w` points, and each block the blocks of `ingredient` on those of its
 /// points, which is a group divisible design with `u` groups of `g` points.
 ///
 /// `master` has `u` groups of `g` / `w` points and blocks of `s` points, from 2 on; `ingredient` has `s` groups of `w` points and blocks of
 /// `k` points, from 2 on. `w` is from 1 on and divides `g`, and `g` `u` and `w` `s` are at most `POINTS_MAX`. The answer is `Memory` only for
 /// want of memory.
 ///
-/// R. M. Wilson, An existence theory for pairwise balanced designs I (1972); D. R. Stinson, Combinatorial Designs: Constructions and
-/// Analysis (2004), chapter 7.
+/// R. M. Wilson, An existence theory for pairwise balanced designs I: composition theorems and morphisms, Journal of Combinatorial
+/// Theory A 13 (1972); D. R. Stinson, Combinatorial Designs: Constructions and Analysis (2004), chapter 7.
 pub fn weight(
     alloc: Global,
     k: u16,
@@ -181,8 +181,8 @@ fn extended(
 /// (`k` - 1) `s` + 1 points and `large` (`k` - 1) (`s` + 1) + 1, and blocks have `k`, from 2 on. The design and `large` have at most
 /// `POINTS_MAX` points. The answer is `Memory` only for want of memory.
 ///
-/// R. M. Wilson, An existence theory for pairwise balanced designs I (1972); D. R. Stinson, Combinatorial Designs: Constructions and
-/// Analysis (2004), chapter 7.
+/// R. M. Wilson, An existence theory for pairwise balanced designs I: composition theorems and morphisms, Journal of Combinatorial
+/// Theory A 13 (1972); D. R. Stinson, Combinatorial Designs: Constructions and Analysis (2004), chapter 7.
 pub fn pbd_to_bibd(
     alloc: Global,
     n: u16,

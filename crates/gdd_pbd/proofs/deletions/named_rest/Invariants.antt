@@ -1,14 +1,10 @@
--- What is there and the blocks that are left are what is there in the end.
-use Rattle.std.proofs.Common.{◌++◌, ◌+◌, ◌≡◌, ◌≤◌}
-use Rattle.std.specs.Prelude.{All}
+-- What is there and the blocks to come that miss p.
+use Rattle.std.proofs.Common.{[]}
+use Rattle.incidence.proofs.Appended.{Extends}
 use Rattle.incidence.specs.Packed.{size_of}
 use Rattle.gdd_pbd.proofs.deletions.named_rest.Given as goal
-use Rattle.gdd_pbd.specs.Room.{HasNames, most_size}
 use Rattle.gdd_pbd.specs.Deleting.{place_in, renamed_rest}
+use Rattle.gdd_pbd.specs.Room.{HasNames}
 
 abbrev pub invariant-loop-block : goal.invariant-loop-block
-invariant-loop-block l = record {
-  rows : l.rows ++ renamed_rest (place_in l.g l.groups) l.p l.block-iterator ≡ renamed_rest (place_in l.g l.groups) l.p l.design;
-  left : All (HasNames l.g l.p l.groups) l.block-iterator;
-  size : size_of l.rows + size_of l.block-iterator ≤ most_size;
-}
+invariant-loop-block l = Extends (renamed_rest (place_in l.g l.groups) l.p) size_of (HasNames l.g l.p l.groups) [] l.design l.rows l.block-iterator

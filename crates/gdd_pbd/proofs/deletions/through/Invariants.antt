@@ -1,14 +1,10 @@
--- What is there and the blocks that are left are what is there in the end.
-use Rattle.std.proofs.Common.{◌++◌, ◌+◌, ◌≡◌, ◌≤◌}
-use Rattle.std.specs.Prelude.{All}
+-- What is there and the groups of the blocks to come.
+use Rattle.std.proofs.Common.{[]}
+use Rattle.incidence.proofs.Appended.{Extends}
 use Rattle.incidence.specs.Packed.{size_of}
 use Rattle.gdd_pbd.proofs.deletions.through.Given as goal
-use Rattle.gdd_pbd.specs.Room.{IsShort, most_size}
 use Rattle.gdd_pbd.specs.Deleting.{groups_at}
+use Rattle.gdd_pbd.specs.Room.{IsShort}
 
 abbrev pub invariant-loop-block : goal.invariant-loop-block
-invariant-loop-block l = record {
-  rows : l.rows ++ groups_at l.p l.block-iterator ≡ groups_at l.p l.design;
-  left : All IsShort l.block-iterator;
-  size : size_of l.rows + size_of l.block-iterator ≤ most_size;
-}
+invariant-loop-block l = Extends (groups_at l.p) size_of IsShort [] l.design l.rows l.block-iterator
