@@ -1,8 +1,7 @@
 -- The steps of the loops that write translates: what there is before the first, and what one more adds.
-use Rattle.std.proofs.Common.{List, [], ap, arith, length, map, refl, subst, sym, ℕ, ◌*◌, ◌++◌, ◌+◌, ◌∙◌, ◌∷◌, ◌≡◌}
+use Rattle.std.proofs.Common.{List, [], ap, arith, length, map, refl, subst, ℕ, ◌*◌, ◌++◌, ◌+◌, ◌∷◌, ◌≡◌}
 use Rattle.std.proofs.lemmas.List.{append-nil, append_assoc}
 use Rattle.std.proofs.lemmas.List.Elements.{All-head}
-use Rattle.std.specs.List.{flat_map}
 use Rattle.std.specs.Prelude.{All}
 use Rattle.counting.proofs.Counts.{join_below_more}
 use Rattle.counting.specs.Sums.{join_below}
@@ -19,13 +18,10 @@ translates_more add c block = join_below_more c (λ c. map (λ x. add x c) block
 
 pub ruleset steps = (append-nil, append_assoc, translates_none, translates_more)
 
--- the next of the blocks that are left: its translates are written
+-- the next of the blocks to come, and the room of its translates
 module _ (all rest : List (List ℕ)) (block : List ℕ) (is : all ≡ block ∷ rest) where
   pub next_size : (v k : ℕ) → All (IsBlock v (λ size. size ≡ k)) all → length block ≡ k
   next_size v k each = let now : All (IsBlock v (λ size. size ≡ k)) (block ∷ rest) = subst (All (IsBlock v (λ size. size ≡ k))) is each in (All-head (IsBlock v (λ size. size ≡ k)) block rest now).size
 
-  pub next_room : (v k now total : ℕ) → length block ≡ k → now + v * ((k + 1) * length all) ≡ total → now + v * (length block + 1) + v * ((k + 1) * length rest) ≡ total
-  next_room v k now total size e = omega (arith, ap (λ n. v * ((k + 1) * n)) (ap length is), ap (λ n. v * (n + 1)) size, e)
-
-  pub next_translates : (f : List ℕ → List (List ℕ)) (rows new total : List (List ℕ)) → rows ++ flat_map f all ≡ total → new ≡ rows ++ f block → new ++ flat_map f rest ≡ total
-  next_translates f rows new total e more = ap (λ R. R ++ flat_map f rest) more ∙ append_assoc rows (f block) (flat_map f rest) ∙ ap (λ xs. rows ++ flat_map f xs) (sym is) ∙ e
+  pub next_room : (v k : ℕ) → length block ≡ k → v * (length block + 1) + v * ((k + 1) * length rest) ≡ v * ((k + 1) * length all)
+  next_room v k size = omega (arith, ap (λ n. v * ((k + 1) * n)) (ap length is), ap (λ n. v * (n + 1)) size)

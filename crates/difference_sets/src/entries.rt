@@ -104,7 +104,11 @@ const ENTRIES: [Entry; FAMILIES as usize] = [
     },
 ];
 
-/// How many families are listed, and so the largest number of one.
+/// How many difference families are listed one by one, and so the largest number of one; they are numbered from 1 on.
+///
+/// Most are over the integers modulo the number of elements, two over a field; each is checked once to be a family with its numbers.
+/// Lists of such families, and of difference sets, stand in the Handbook of Combinatorial Designs (C. J. Colbourn, J. H. Dinitz, eds.,
+/// 2nd edition, 2007), VI.16 and VI.18.
 #[tactic(auto, unfolding(crate::specs::Listed::families))]
 pub fn listed_families() -> u16
     ensures value { result ≡ length families }
@@ -126,8 +130,8 @@ fn is_over(entry: &Entry, group: Group, v: u16, k: u16, l: u16) -> bool
     entry.group == group && (entry.v == v && (entry.k == k && entry.l == l))
 }
 
-/// Whether the family of a number, from 1 on, is one over this group, and has these numbers.
-pub fn is_entry(n: u16, group: Group, v: u16, k: u16, l: u16) -> bool
+// Whether the family of a number, from 1 on, is one over this group, and has these numbers.
+pub(crate) fn is_entry(n: u16, group: Group, v: u16, k: u16, l: u16) -> bool
     ensures { result ≡ is_listed_family n group v k l }
 {
     let entries = entries();
@@ -148,8 +152,8 @@ fn push_blocks(rows: &mut Rows, blocks: &[&[u16]]) -> Result<(), Memory>
     Ok(())
 }
 
-/// The base blocks of the family of a number, from 1 on, as they are listed.
-pub fn entry_rows(alloc: Global, n: u16) -> Result<Rows, Memory>
+// The base blocks of an entry of the list, by its number, from 1 on: as they are listed, which is in canonical form.
+pub(crate) fn base_blocks_of_entry(alloc: Global, n: u16) -> Result<Rows, Memory>
     requires some { 1 ≤ n }
     requires listed { n ≤ length families }
     ensures { IfOk result (λ rows. rows ≡ (family_at n).blocks) }

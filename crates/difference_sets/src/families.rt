@@ -8,27 +8,34 @@ ghost use Rattle.difference_sets.specs.Conditions.{CanBuildCosets, CanBuildFamil
 ghost use Rattle.difference_sets.specs.Families.{family_blocks, field_cosets, step_blocks};
 ghost use Rattle.difference_sets.specs.FamilySteps.{family_applies};
 
-use crate::cosets::coset_rows;
-use crate::entries::entry_rows;
+use crate::cosets::base_blocks_of_cosets;
+use crate::entries::base_blocks_of_entry;
 use design_base::{Group, Memory, Query, Rule, Step};
 use field_tables::open_field;
 use incidence::Rows;
 use std::alloc::Global;
 
-// Over the field of `q` elements the first `m` cosets of `f` nonzero elements, and 0 too in each where `z` is 1.
-fn field_rows(alloc: Global, q: u16, z: u16, e: u16, f: u16, m: u16) -> Result<Rows, Memory>
+// The base blocks of cosets over the field of `q` elements: the first `m` cosets of `f` nonzero elements, and 0 too in each where `z` is 1.
+fn base_blocks_of_field(
+    alloc: Global,
+    q: u16,
+    z: u16,
+    e: u16,
+    f: u16,
+    m: u16,
+) -> Result<Rows, Memory>
     requires { CanBuildCosets q z e f m }
     ensures { IfOk result (λ rows. rows ≡ field_cosets q z e f m) }
 {
     match open_field(alloc, q)? {
-        Some(field) => coset_rows(alloc, &field, z, e, f, m),
+        Some(field) => base_blocks_of_cosets(alloc, &field, z, e, f, m),
         None => unreachable!(),
     }
 }
 
-// The base blocks of a rule that applies with its parameters `a` and `b`, in any order.
+// The base blocks of a rule that applies with its parameters `a` and `b` to the question of `v`, `k` and `l`, in any order.
 #[tactic(auto, unfolding(crate::specs::Families::family_blocks))]
-fn family_rows(
+fn base_blocks_of_rule(
     alloc: Global,
     group: Group,
     v: u16,
@@ -44,14 +51,28 @@ fn family_rows(
 {
     let nonzero = v - 1;
     match rule {
-        Rule::Table => entry_rows(alloc, a),
-        Rule::Powers => field_rows(alloc, v, b, a, nonzero / a, 1),
-        Rule::Cosets => field_rows(alloc, v, 0, nonzero / k, k, nonzero / k),
+        Rule::Table => base_blocks_of_entry(alloc, a),
+        Rule::Powers => base_blocks_of_field(alloc, v, b, a, nonzero / a, 1),
+        Rule::Cosets => base_blocks_of_field(alloc, v, 0, nonzero / k, k, nonzero / k),
         Rule::Cosets0 => {
             let e = nonzero / (k - 1);
-            field_rows(alloc, v, 1, e, k - 1, e)
+            base_blocks_of_field(alloc, v, 1, e, k - 1, e)
         }
-        Rule::Halfcosets => field_rows(alloc, v, 0, nonzero / k, k, nonzero / k / 2),
+        Rule::Halfcosets => base_blocks_of_field(alloc, v, 0, nonzero / k, k, nonzero / k / 2),
+        _ => unreachable!(),
+    }
+}
+
+// The base blocks of a step that applies to a question, in any order.
+#[tactic(auto, unfolding(crate::specs::Families::step_blocks, crate::specs::FamilySteps::is_family_step))]
+fn base_blocks_of_step(alloc: Global, q: &Query, step: &Step) -> Result<Rows, Memory>
+    requires { CanBuildFamily q.now step.now }
+    ensures { IfOk result (λ rows. rows ≡ step_blocks q.now step.now) }
+{
+    match *q {
+        Query::Df { group, v, k, l } => base_blocks_of_rule(
+            alloc, group, v, k, l, step.rule, step.a, step.b,
+        ),
         _ => unreachable!(),
     }
 }
@@ -62,26 +83,12 @@ fn family_rows(
 /// The question is in bounds, and the step applies to it (`is_family_step`). The answer is `Memory` only for want of memory.
 ///
 /// Families of squares are those of R. E. A. C. Paley, On orthogonal matrices (1933), and the families of cosets those of
-/// R. M. Wilson, Cyclotomy and difference families in elementary abelian groups (1972).
+/// R. M. Wilson, Cyclotomy and difference families in elementary abelian groups, Journal of Number Theory 4 (1972).
 pub fn family(alloc: Global, q: &Query, step: &Step) -> Result<Rows, Memory>
     requires { CanBuildFamily q.now step.now }
     ensures blocks { IfOk result (λ rows. rows ≡ canonical (step_blocks q.now step.now)) }
     ensures design { IfOk result (λ rows. Meets q.now rows) }
 {
-    let rows = base_rows(alloc, q, step)?.canonical()?;
+    let rows = base_blocks_of_step(alloc, q, step)?.canonical()?;
     Ok(rows)
-}
-
-// The base blocks of a step that applies to a question, in any order.
-#[tactic(auto, unfolding(crate::specs::Families::step_blocks, crate::specs::FamilySteps::is_family_step))]
-fn base_rows(alloc: Global, q: &Query, step: &Step) -> Result<Rows, Memory>
-    requires { CanBuildFamily q.now step.now }
-    ensures { IfOk result (λ rows. rows ≡ step_blocks q.now step.now) }
-{
-    match *q {
-        Query::Df { group, v, k, l } => family_rows(
-            alloc, group, v, k, l, step.rule, step.a, step.b,
-        ),
-        _ => unreachable!(),
-    }
 }

@@ -1,4 +1,4 @@
-// The powers that are difference families.
+// The powers that are difference families: cyclotomic classes, with 0 or without it, of the fields within the limits.
 
 // The q, e, z and l of a family over the field of q elements: its base block holds the powers of g ^ e, where g is the least
 // generator, and 0 too where z is 1; each element but 0 is the difference of l pairs.

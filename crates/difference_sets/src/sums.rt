@@ -7,9 +7,9 @@ use field_tables::{Field, open_field};
 use std::alloc::Global;
 use std::marker::Model;
 
-/// The sums of the integers modulo a number, or those of a field. Clauses see the group and how many elements it has.
+// The sums of the integers modulo a number, or those of a field. Clauses see the group and how many elements it has.
 #[derive(Drop)]
-pub struct Sums {
+pub(crate) struct Sums {
     order: u16,
     field: Option<Field>,
 }
@@ -27,8 +27,8 @@ impl Model for Sums {
 }
 
 impl Sums {
-    /// The sums of the group of `v` elements. `Memory` comes only for want of memory.
-    pub fn open(alloc: Global, group: Group, v: u16) -> Result<Sums, Memory>
+    // The sums of the group of `v` elements. `Memory` comes only for want of memory.
+    pub(crate) fn open(alloc: Global, group: Group, v: u16) -> Result<Sums, Memory>
         requires { GroupAt group v }
         ensures { IfOk result (λ sums. sums ≡ (group, v)) }
     {
@@ -47,16 +47,16 @@ impl Sums {
         }
     }
 
-    /// How many elements the group has.
-    pub fn order(&self) -> u16
+    // How many elements the group has.
+    pub(crate) fn order(&self) -> u16
         ensures { result ≡ self.now.1 }
     {
         self.order
     }
 
-    /// The sum of two elements.
+    // The sum of two elements.
     #[tactic(auto, unfolding(design_base::specs::Meets::group_add))]
-    pub fn add(&self, x: u16, y: u16) -> u16
+    pub(crate) fn add(&self, x: u16, y: u16) -> u16
         requires x_below { x < self.now.1 }
         requires y_below { y < self.now.1 }
         ensures sum { result ≡ group_add self.now.0 self.now.1 x y }

@@ -76,7 +76,7 @@ fn with_room(alloc: Global, v: u16, k: u16, l: u16) -> Result<Rows, Memory>
 /// `base` is a difference family of blocks of `k` elements in which each element but 0 is the difference of `l` pairs; `k` is
 /// from 2 to `v`, `v` at most `POINTS_MAX`, and `l` at most `COVER_MAX`. The answer is `Memory` only for want of memory.
 ///
-/// R. C. Bose, On the construction of balanced incomplete block designs (1939).
+/// R. C. Bose, On the construction of balanced incomplete block designs, Annals of Eugenics 9 (1939).
 #[tactic(auto, using(crate::proofs::Translations::develop_room, crate::proofs::Translations::develop_design), unfolding(crate::specs::Develop::developed))]
 pub fn develop(
     alloc: Global,

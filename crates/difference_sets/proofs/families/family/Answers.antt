@@ -5,4 +5,4 @@ use Rattle.difference_sets.proofs.Buildable.{family_design}
 use Rattle.difference_sets.proofs.families.family.Goals as goal
 
 pub returns-clause-design : goal.returns-clause-design
-returns-clause-design c = subst (Meets c.args.q.now) (sym (c.in_ok-rows.ensures ∙ ap canonical c.in_ok-base_rows.ensures)) (family_design c.args.q.now c.args.step.now c.requires)
+returns-clause-design c = subst (Meets c.args.q.now) (sym (c.in_ok-rows.ensures ∙ ap canonical c.in_ok-base_blocks_of_step.ensures)) (family_design c.args.q.now c.args.step.now c.requires)

@@ -1,7 +1,7 @@
 use Rattle.std.proofs.Common.{arith}
 use Rattle.difference_sets.proofs.CosetSteps.{are_few, rows_fit}
 use Rattle.field_tables.proofs.Listed.{listed_small, order_above}
-use Rattle.difference_sets.proofs.cosets.coset_rows.Goals as goal
+use Rattle.difference_sets.proofs.cosets.base_blocks_of_cosets.Goals as goal
 
 pub overflow_add-f : goal.overflow_add-f
 overflow_add-f c =

@@ -1,7 +1,7 @@
 use Rattle.std.proofs.Common.{ap, ap₂, arith, ◌++◌, ◌∙◌}
 use Rattle.difference_sets.proofs.EntrySteps.{entry_room, entry_seen}
 use Rattle.incidence.specs.Packed.{size_of}
-use Rattle.difference_sets.proofs.entries.entry_rows.Goals as goal
+use Rattle.difference_sets.proofs.entries.base_blocks_of_entry.Goals as goal
 
 pub returns : goal.returns
 returns c = c.in_ok-push_blocks.ensures ∙ ap₂ (λ rows blocks. rows ++ blocks) c.new-rows.ensures (ap (λ f. f.blocks) (entry_seen _ c.entries.ensures c.args.n c.from.result (grind arith) c.requires.some c.requires.listed))
