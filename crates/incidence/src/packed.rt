@@ -137,6 +137,25 @@ impl Rows {
         Ok(())
     }
 
+    /// Appends the rows of another list, in their order. The rows and numbers of both lists are together fewer than
+    /// `PACKED_MAX`. After `Memory`, which comes only for want of memory, the list is as before.
+    #[tactic(auto, using(crate::proofs::Walk::appended))]
+    pub fn push_all(&mut self, other: &Rows) -> Result<(), Memory>
+        requires { size_of self.old + size_of other.now < PACKED_MAX }
+        ensures ok { OnOk result (self.new ≡ self.old ++ other.now) }
+        ensures size { OnOk result (size_of self.new ≡ size_of self.old + size_of other.now) }
+        ensures err { OnErr result (self.new ≡ self.old) }
+    {
+        let count = self.len();
+        for row in other {
+            if self.push_row(row).is_err() {
+                self.truncate(count);
+                return Err(Memory);
+            }
+        }
+        Ok(())
+    }
+
     /// Keeps the first `count` rows, or all where there are not more. The memory stays taken.
     #[tactic(auto, using(crate::proofs::Fronts::front_all))]
     pub fn truncate(&mut self, count: usize)

@@ -25,6 +25,20 @@ fn rows_are_pushed(rt: HostRuntime) -> Result<(), Fail> {
 }
 
 #[test]
+fn lists_are_appended(rt: HostRuntime) -> Result<(), Fail> {
+    let front: [&[u16]; 2] = [&[3, 1], &[]];
+    let other: [&[u16]; 2] = [&[65_535], &[0, 2, 4]];
+    let mut rows = pack(rt.alloc(), &front, 2)?;
+    rows.push_all(&Rows::new(rt.alloc()))?;
+    assert!(rt; are(&rows, &front));
+    let more = pack(rt.alloc(), &other, 4)?;
+    rows.push_all(&more)?;
+    assert!(rt; are(&rows, &[&[3, 1], &[], &[65_535], &[0, 2, 4]]));
+    assert!(rt; are(&more, &other));
+    Ok(())
+}
+
+#[test]
 fn rows_are_given_up(rt: HostRuntime) -> Result<(), Fail> {
     let list: [&[u16]; 4] = [&[5, 1], &[], &[2], &[7, 3, 9]];
     let mut rows = pack(rt.alloc(), &list, 6)?;
