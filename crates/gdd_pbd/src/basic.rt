@@ -6,7 +6,7 @@ ghost use Rattle.incidence.specs.Packed.{size_of};
 ghost use Rattle.gdd_pbd.specs.Conditions.{CanComplement, CanOmit, CanRepeat, CanSum};
 ghost use Rattle.gdd_pbd.specs.Basic.{all_but_one, complement as complement_blocks, omit_blocks, pair_blocks, pairs_once, pairs_with, whole_blocks};
 
-use crate::pieces::{push_all, push_complements, push_missing};
+use crate::pieces::{push_complements, push_missing};
 use design_base::{COVER_MAX, Memory, PACKED_MAX, POINTS_MAX};
 use incidence::Rows;
 use std::alloc::Global;
@@ -138,8 +138,8 @@ pub fn sum(
     ensures design { IfOk result (λ rows. IsBibd rows v k l) }
 {
     let mut rows = Rows::new(alloc);
-    push_all(&mut rows, first)?;
-    push_all(&mut rows, second)?;
+    rows.push_all(first)?;
+    rows.push_all(second)?;
     let blocks = rows.canonical()?;
     Ok(blocks)
 }

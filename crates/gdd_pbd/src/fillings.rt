@@ -6,7 +6,7 @@ ghost use Rattle.gdd_pbd.specs.Conditions.{CanFill, CanTdFill, CanTdFillWithPoin
 ghost use Rattle.gdd_pbd.specs.Room.{CanFillGroups};
 ghost use Rattle.gdd_pbd.specs.Filling.{fill as fill_of, fill_with_point as fill_with_point_of, groups_of};
 
-use crate::pieces::{push_all, push_in_groups};
+use crate::pieces::push_in_groups;
 use design_base::Memory;
 use incidence::Rows;
 use std::alloc::Global;
@@ -18,7 +18,7 @@ fn filled(alloc: Global, g: u16, u: u16, master: &Rows, design: &Rows) -> Result
     ensures { IfOk result (λ rows. rows ≡ canonical (master.now ++ groups_of g u design.now u)) }
 {
     let mut rows = Rows::new(alloc);
-    push_all(&mut rows, master)?;
+    rows.push_all(master)?;
     push_in_groups(&mut rows, g, u, u, design)?;
     let blocks = rows.canonical()?;
     Ok(blocks)

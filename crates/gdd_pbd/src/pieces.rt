@@ -18,19 +18,6 @@ pub(crate) fn holds(block: &[u16], x: u16) -> bool
     block.contains(&x)
 }
 
-// Appends the rows of a list.
-#[tactic(auto, using(crate::proofs::Steps::steps))]
-pub(crate) fn push_all(rows: &mut Rows, list: &Rows) -> Result<(), Memory>
-    requires room { size_of rows.old + size_of list.now < PACKED_MAX }
-    ensures ok { OnOk result (rows.new ≡ rows.old ++ list.now) }
-    ensures size { OnOk result (size_of rows.new ≡ size_of rows.old + size_of list.now) }
-{
-    for row in list.iter() {
-        rows.push_row(row)?;
-    }
-    Ok(())
-}
-
 // Appends the points below v that are not in the block.
 #[tactic(auto, using(crate::proofs::Steps::steps))]
 pub(crate) fn push_missing(rows: &mut Rows, v: u16, block: &[u16]) -> Result<(), Memory>
