@@ -14,8 +14,8 @@ use Rattle.incidence.proofs.Sizes.{size_of-append, size_of-cons}
 use Rattle.incidence.specs.Packed.{size_of}
 use Rattle.gdd_pbd.specs.Deleting.{below_point, groups_at, renamed_rest}
 use Rattle.gdd_pbd.specs.Weighting.{chosen}
-use Rattle.gdd_pbd.specs.Filling.{groups_of, place_by, rename}
-use Rattle.gdd_pbd.specs.Basic.{all_but_one, complement, kept, missing, omitted, pair_blocks, pairs_once, pairs_with, whole_blocks}
+use Rattle.gdd_pbd.specs.Filling.{rename}
+use Rattle.gdd_pbd.specs.Basic.{all_but_one, kept, missing, whole_blocks}
 
 -- groups that stand before others
 pub groups_within : (j m g n : ℕ) → j ≤ m → m * g ≤ n → j * g ≤ n
@@ -76,30 +76,6 @@ pub whole-more : (v l : ℕ) → whole_blocks v (l + 1) ≡ whole_blocks v l ++ 
 unfolding whole_blocks
 whole-more v l = join_below_more l _ ∙ ap (λ b. whole_blocks v l ++ b ∷ []) (sym (missing_nothing v ∙ every v))
 
-pub pairs_with-none : (y : ℕ) → pairs_with y 0 ≡ []
-unfolding pairs_with
-pairs_with-none y = join_below_none _
-
-pub pairs_with-more : (y m : ℕ) → pairs_with y (m + 1) ≡ pairs_with y m ++ (m ∷ y ∷ []) ∷ []
-unfolding pairs_with
-pairs_with-more y m = join_below_more m _
-
-pub pairs_once-none : pairs_once 0 ≡ []
-unfolding pairs_once
-pairs_once-none = join_below_none _
-
-pub pairs_once-more : (m : ℕ) → pairs_once (m + 1) ≡ pairs_once m ++ pairs_with m m
-unfolding pairs_once
-pairs_once-more m = join_below_more m _
-
-pub pair_blocks-none : (v : ℕ) → pair_blocks v 0 ≡ []
-unfolding pair_blocks
-pair_blocks-none v = join_below_none _
-
-pub pair_blocks-more : (v m : ℕ) → pair_blocks v (m + 1) ≡ pair_blocks v m ++ pairs_once v
-unfolding pair_blocks
-pair_blocks-more v m = join_below_more m _
-
 pub all_but_one-none : (v : ℕ) → all_but_one v 0 ≡ []
 unfolding all_but_one
 all_but_one-none v = join_below_none _
@@ -108,26 +84,7 @@ pub all_but_one-more : (v m : ℕ) → all_but_one v (m + 1) ≡ all_but_one v m
 unfolding all_but_one
 all_but_one-more v m = join_below_more m _ ∙ ap (λ b. all_but_one v m ++ b ∷ []) (sym (missing_one v m))
 
-pub omitted-none : (v : ℕ) → omitted v 0 ≡ []
-unfolding omitted
-omitted-none v = join_below_none _
-
-pub omitted-more : (v m : ℕ) → omitted v (m + 1) ≡ omitted v m ++ all_but_one v v
-unfolding omitted
-omitted-more v m = join_below_more m _
-
-pub complement-none : (v : ℕ) → complement v [] ≡ []
-unfolding complement
-complement-none v = refl
-
-pub complement-next : (v : ℕ) (b : List ℕ) (B : List (List ℕ)) → complement v (b ∷ B) ≡ missing v b ∷ [] ++ complement v B
-unfolding complement
-complement-next v b B = refl
-
 -- ---- blocks without the points from v on
-pub front-none : (v : ℕ) → filter (λ x. nat_lt x v) [] ≡ []
-front-none v = refl
-
 pub front-kept : (v i x : ℕ) (b : List ℕ) → slice_get b i ≡ Some x → x < v → filter (λ x. nat_lt x v) (take (i + 1) b) ≡ filter (λ x. nat_lt x v) (take i b) ++ x ∷ []
 front-kept v i x b is l = ap (filter (λ x. nat_lt x v)) (take_next b i x is) ∙ filter-append (λ x. nat_lt x v) (take i b) (x ∷ []) ∙ ap (λ t. filter (λ x. nat_lt x v) (take i b) ++ t) (cond-true (nat_lt x v) _ _ (lt-ltb x v l))
 
@@ -144,14 +101,6 @@ renamed_next f block row j x l h e is = take_more_set row j x l ∙ ap₂ (λ fr
 pub size_of-renamed : (f : ℕ → ℕ) (B : List (List ℕ)) → size_of (map (map f) B) ≡ size_of B
 size_of-renamed f [] = refl
 size_of-renamed f (b ∷ B) = omega (arith, size_of-cons (map f b) (map (map f) B), size_of-cons b B, length-map b f, size_of-renamed f B)
-
-pub groups_of-none : (g u : ℕ) (D : List (List ℕ)) → groups_of g u D 0 ≡ []
-unfolding groups_of
-groups_of-none g u D = join_below_none _
-
-pub groups_of-more : (g u m : ℕ) (D : List (List ℕ)) → groups_of g u D (m + 1) ≡ groups_of g u D m ++ rename (place_by g (m ∷ u ∷ [])) D
-unfolding groups_of
-groups_of-more g u m D = join_below_more m _
 
 -- ---- the ingredient for a block
 pub chosen-first : (s z : ℕ) (C D : List (List ℕ)) → z ≡ s → chosen s C D z ≡ C
@@ -216,29 +165,18 @@ pub ruleset steps = (
   append_assoc,
   size_of-cons,
   size_of-append,
+  join_below_none,
+  join_below_more,
   front_more,
   missing-none,
   missing-more,
   missing-same,
   whole-none,
   whole-more,
-  pairs_with-none,
-  pairs_with-more,
-  pairs_once-none,
-  pairs_once-more,
-  pair_blocks-none,
-  pair_blocks-more,
   all_but_one-none,
   all_but_one-more,
-  omitted-none,
-  omitted-more,
-  complement-none,
-  complement-next,
-  front-none,
   front-kept,
   front-dropped,
-  groups_of-none,
-  groups_of-more,
   chosen-first,
   chosen-second,
   groups_at-none,

@@ -41,7 +41,7 @@ pub fn whole(alloc: Global, v: u16, l: u16) -> Result<Rows, Memory>
 }
 
 // Appends the pairs of y and each smaller point.
-#[tactic(auto, using(crate::proofs::Steps::steps))]
+#[tactic(auto, using(crate::proofs::Steps::steps), unfolding(crate::specs::Basic::pairs_with))]
 fn push_pairs_with(rows: &mut Rows, y: u16) -> Result<(), Memory>
     requires points { y ≤ POINTS_MAX }
     requires room { size_of rows.old + 3 * POINTS_MAX < PACKED_MAX }
@@ -55,7 +55,7 @@ fn push_pairs_with(rows: &mut Rows, y: u16) -> Result<(), Memory>
 }
 
 // Appends each pair of points once.
-#[tactic(auto, using(crate::proofs::Steps::steps))]
+#[tactic(auto, using(crate::proofs::Steps::steps), unfolding(crate::specs::Basic::pairs_once))]
 fn push_pairs(rows: &mut Rows, v: u16) -> Result<(), Memory>
     requires points { v ≤ POINTS_MAX }
     requires room { size_of rows.old + 3 * (POINTS_MAX * POINTS_MAX) < PACKED_MAX }
@@ -71,7 +71,7 @@ fn push_pairs(rows: &mut Rows, v: u16) -> Result<(), Memory>
 /// Each pair of `v` points, `l` times: the block design with blocks of two points.
 ///
 /// `v` is at most `POINTS_MAX`, and `l` at most `COVER_MAX`. The answer is `Memory` only for want of memory.
-#[tactic(auto, using(crate::proofs::BasicNeeds::pairs_design, crate::proofs::Steps::steps))]
+#[tactic(auto, using(crate::proofs::BasicNeeds::pairs_design, crate::proofs::Steps::steps), unfolding(crate::specs::Basic::pair_blocks))]
 pub fn pairs(alloc: Global, v: u16, l: u16) -> Result<Rows, Memory>
     requires { CanRepeat v l }
     ensures blocks { IfOk result (λ rows. rows ≡ canonical (pair_blocks v l)) }
@@ -102,7 +102,7 @@ fn push_all_but_one(rows: &mut Rows, v: u16) -> Result<(), Memory>
 /// Each set of `v` - 1 of `v` points, `l` / (`v` - 2) times: the block design in which each block omits one point.
 ///
 /// `v` is from 3 to `POINTS_MAX`, and `l` is a multiple of `v` - 2 and at most `COVER_MAX`. The answer is `Memory` only for want of memory.
-#[tactic(auto, using(crate::proofs::Steps::steps))]
+#[tactic(auto, using(crate::proofs::Steps::steps), unfolding(crate::specs::Basic::omitted))]
 pub fn omit(alloc: Global, v: u16, l: u16) -> Result<Rows, Memory>
     requires { CanOmit v l }
     ensures blocks { IfOk result (λ rows. rows ≡ canonical (omit_blocks v l)) }

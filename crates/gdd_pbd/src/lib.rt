@@ -2,7 +2,7 @@
 //!
 //! Groups are filled (`fill`, `split`, `td_fill`), points deleted (`delete_point`, `drop_point`), the last group of a transversal design
 //! truncated (`truncate_pbd`), and points given a weight (`weight`, `pbd_to_bibd`); lists are added (`sum`) and complemented (`complement`).
-//! `whole`, `pairs` and `omit` need no ingredient: they are the smallest of those that the others begin with.
+//! `whole`, `pairs` and `omit` need no ingredient: the block designs of all points, of all pairs, and of all points but one.
 //!
 //! Each builder takes the block lists of its ingredients and answers a block list in canonical form. Its one condition is a record of
 //! specs/Conditions.

@@ -38,7 +38,7 @@ pub(crate) fn push_missing(rows: &mut Rows, v: u16, block: &[u16]) -> Result<(),
 }
 
 // Appends the complement of each block.
-#[tactic(auto, using(crate::proofs::Steps::steps))]
+#[tactic(auto, using(crate::proofs::Steps::steps), unfolding(crate::specs::Basic::complement))]
 pub(crate) fn push_complements(rows: &mut Rows, v: u16, design: &Rows) -> Result<(), Memory>
     requires points { v ≤ POINTS_MAX }
     requires room { size_of rows.old + (POINTS_MAX + 1) * length design.now < PACKED_MAX }
@@ -133,7 +133,7 @@ pub(crate) fn push_copies(
 }
 
 // Appends for each of the first m groups of g points the blocks of a design on the group, and on the first point of group u.
-#[tactic(auto, using(crate::proofs::Steps::steps))]
+#[tactic(auto, using(crate::proofs::Steps::steps), unfolding(crate::specs::Filling::groups_of))]
 pub(crate) fn push_in_groups(
     rows: &mut Rows,
     g: u16,
