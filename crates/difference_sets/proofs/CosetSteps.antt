@@ -2,7 +2,7 @@
 use Rattle.std.proofs.Common.{Bool, List, [], ap, ap₂, arith, cond, false, length, refl, slice_set, subst, suc, sym, take, true, zero, ℕ, ◌*◌, ◌++◌, ◌+◌, ◌-◌, ◌<◌, ◌==◌, ◌∙◌, ◌∷◌, ◌≡◌, ◌≤◌}
 use Rattle.std.proofs.Math.Nat.{mul-le-mul_left, mul-le-mul_right}
 use Rattle.std.proofs.lemmas.List.{append-nil, append_assoc, take_more_set}
-use Rattle.counting.proofs.Counts.{join_below_more}
+use Rattle.counting.proofs.Counts.{join_below_more, join_below_none}
 use Rattle.counting.proofs.Ranges.{length-list_below}
 use Rattle.counting.specs.Sums.{join_below, list_below}
 use Rattle.design_base.specs.Fields.{field_product, gen, has_field}
@@ -57,15 +57,6 @@ pub coset_all : (mul : ℕ → ℕ → ℕ) (g z e f i j : ℕ) (row : List ℕ)
 unfolding coset
 coset_all mul g z e f i j row low high is = let done : j ≡ f = omega arith in subst (λ j. take (z + j) row ≡ with_zero z (list_below j (λ j. power mul g (i + e * j)))) done is
 
--- ---- the rows so far
-pub cosets_none : (mul : ℕ → ℕ → ℕ) (g z e f : ℕ) → cosets mul g z e f 0 ≡ []
-unfolding cosets join_below
-cosets_none mul g z e f = refl
-
-pub cosets_more : (mul : ℕ → ℕ → ℕ) (g z e f i : ℕ) → cosets mul g z e f (i + 1) ≡ cosets mul g z e f i ++ with_zero z (coset mul g e f i) ∷ []
-unfolding cosets
-cosets_more mul g z e f i = join_below_more i _
-
 -- the subgroup has fewer elements than the field, and so have all rows together three times as many
 pub record AreFew (q e f : ℕ) : Type 0 where
   pub some : 0 < f
@@ -90,4 +81,4 @@ rows_fit q e f z m i some whole small inside l =
     let most : e * z ≤ e * 1 = mul-le-mul_left e small in
     omega (arith, all, most, whole, (are_few q e f some whole).many)
 
-pub ruleset steps = (append-nil, append_assoc, order_above, generator_small, cosets_none, cosets_more)
+pub ruleset steps = (append-nil, append_assoc, order_above, generator_small, join_below_none, join_below_more)

@@ -34,7 +34,7 @@ fn push_coset(rows: &mut Rows, field: &Field, z: u16, e: u16, f: u16, i: u16) ->
 // The base blocks of cosets: the first `m` of those of the subgroup of `f` nonzero elements, and 0 too in each where `z` is 1.
 //
 // `z` is 0 or 1, `m` at most `e`, and `e` times `f` is the number of nonzero elements. The answer is `Memory` only for want of memory.
-#[tactic(auto, using(crate::proofs::CosetSteps::steps), unfolding(crate::specs::Families::field_cosets))]
+#[tactic(auto, using(crate::proofs::CosetSteps::steps), unfolding(crate::specs::Families::cosets, crate::specs::Families::field_cosets))]
 pub(crate) fn base_blocks_of_cosets(
     alloc: Global,
     field: &Field,

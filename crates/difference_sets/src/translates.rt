@@ -29,7 +29,7 @@ fn push_translate(rows: &mut Rows, sums: &Sums, block: &[u16], c: u16) -> Result
 }
 
 // Appends the translates of a block.
-#[tactic(auto, using(crate::proofs::TranslateSteps::steps))]
+#[tactic(auto, using(crate::proofs::TranslateSteps::steps), unfolding(crate::specs::Develop::translates_below))]
 fn push_translates(rows: &mut Rows, sums: &Sums, block: &[u16]) -> Result<(), Memory>
     requires elements { All (λ x. x < sums.now.1) block.now }
     requires few { length block.now ≤ POINTS_MAX }
