@@ -31,11 +31,6 @@ zero_append z xs ys = by (z == 1)
     by true = refl
     by false = refl
 
-pub zero_length : (z : ℕ) (xs : List ℕ) → z ≤ 1 → length (with_zero z xs) ≡ length xs + z
-zero_length zero xs small = omega arith
-zero_length (suc zero) xs small = omega arith
-zero_length (suc (suc z)) xs small = absurd (omega arith)
-
 pub row_none : (z : ℕ) (row : List ℕ) (h : ℕ → ℕ) → z ≤ 1 → take 1 row ≡ 0 ∷ [] → take (z + 0) row ≡ with_zero z (list_below 0 h)
 unfolding join_below
 row_none zero row h small first = refl

@@ -1,9 +1,9 @@
 -- The steps of the loops that write blocks: what there is before the first, and what one more adds.
-use Rattle.std.proofs.Common.{Bool, List, Some, [], ap, ap₂, arith, cond, false, inl, inr, length, map, not, refl, slice_set, suc, sym, take, true, zero, ℕ, ◌*◌, ◌++◌, ◌+◌, ◌<◌, ◌==◌, ◌∙◌, ◌∷◌, ◌≡◌, ◌≢◌, ◌≤◌, get_or}
+use Rattle.std.proofs.Common.{Bool, List, Some, [], ap, ap₂, arith, cond, false, inl, inr, length, map, not, refl, slice_set, suc, sym, take, true, zero, ℕ, ◌*◌, ◌++◌, ◌+◌, ◌<◌, ◌==◌, ◌∙◌, ◌∷◌, ◌≡◌, ◌≢◌, ◌≤◌}
 use Rattle.std.proofs.Math.Nat.{mul-le-mul_right}
 use Rattle.counting.proofs.Booleans.{cases_Bool, cond-false, cond-true, eq-eqb, le-ltb, lt-ltb, ne_eqb}
 use Rattle.std.proofs.lemmas.Bool.Decides.{nat_tests}
-use Rattle.std.proofs.lemmas.List.{append-nil, append_assoc, length-map, map-append, take_more, take_more_set}
+use Rattle.std.proofs.lemmas.List.{append-nil, append_assoc, length-map, take_more_set}
 use Rattle.std.proofs.lemmas.List.Elements.{All-from_recursion, filter-append}
 use Rattle.std.specs.Prelude.{All, filter, nat_lt, slice_get}
 use Rattle.incidence.proofs.Walk.{take_next}
@@ -92,11 +92,6 @@ pub front-dropped : (v i x : ℕ) (b : List ℕ) → slice_get b i ≡ Some x �
 front-dropped v i x b is l = ap (filter (λ x. nat_lt x v)) (take_next b i x is) ∙ filter-append (λ x. nat_lt x v) (take i b) (x ∷ []) ∙ ap (λ t. filter (λ x. nat_lt x v) (take i b) ++ t) (cond-false (nat_lt x v) _ _ (le-ltb x v l)) ∙ append-nil (filter (λ x. nat_lt x v) (take i b))
 
 -- ---- renamed points
-pub renamed_next : (f : ℕ → ℕ) (block row : List ℕ) (j x : ℕ) → j < length row → j < length block → take j row ≡ map f (take j block) → x ≡ f (get_or block j 0) →
-    take (j + 1) (slice_set row j x) ≡ map f (take (j + 1) block)
-renamed_next f block row j x l h e is = take_more_set row j x l ∙ ap₂ (λ front x. front ++ x ∷ []) e is
-    ∙ sym (map-append f (take j block) (get_or block j 0 ∷ [])) ∙ ap (map f) (sym (take_more block j 0 h))
-
 -- as many as before
 pub size_of-renamed : (f : ℕ → ℕ) (B : List (List ℕ)) → size_of (map (map f) B) ≡ size_of B
 size_of-renamed f [] = refl
