@@ -1,4 +1,5 @@
-//! Block lists, packed: one vector of numbers for all rows. Rows of an array, and the blocks that they stand for.
+//! A packed list of blocks: `Rows` keeps the numbers of all blocks in one vector, and where each block ends in another.
+//! The rows of an array stand in such a list too, and are made into the blocks of a transversal design and back.
 #![tactic(auto)]
 
 mod arrays;

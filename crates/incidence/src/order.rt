@@ -20,7 +20,7 @@ fn row_list(alloc: Global, rows: &Rows) -> Result<Vec<&[u16]>, Memory>
 
 // Whether the rows stand in lexicographic order.
 #[tactic(auto, using(crate::proofs::Ordered::ascends_more))]
-pub fn are_in_order(rows: &Rows) -> bool
+pub(crate) fn are_in_order(rows: &Rows) -> bool
     ensures { IsTrue result → IsSorted (slice_cmp nat_cmp) rows.now }
 {
     for i in 1..rows.len() {
@@ -32,7 +32,7 @@ pub fn are_in_order(rows: &Rows) -> bool
 }
 
 // The rows in lexicographic order, each borrowed.
-pub fn in_lexicographic_order(alloc: Global, rows: &Rows) -> Result<Vec<&[u16]>, Memory>
+pub(crate) fn in_lexicographic_order(alloc: Global, rows: &Rows) -> Result<Vec<&[u16]>, Memory>
     ensures same { IfOk result (λ order. IsPermutation rows.now (map (λ row. row.now) order.items)) }
     ensures sorted { IfOk result (λ order. IsSorted (slice_cmp nat_cmp) (map (λ row. row.now) order.items)) }
 {
@@ -43,7 +43,7 @@ pub fn in_lexicographic_order(alloc: Global, rows: &Rows) -> Result<Vec<&[u16]>,
 
 // The rows of the list, packed. Memory for so many numbers is taken at once.
 #[tactic(auto, using(crate::proofs::Ordered::size_more))]
-pub fn pack(alloc: Global, list: &[&[u16]], numbers: usize) -> Result<Rows, Memory>
+pub(crate) fn pack(alloc: Global, list: &[&[u16]], numbers: usize) -> Result<Rows, Memory>
     requires { size_of (map (λ row. row.now) list.now) < PACKED_MAX }
     ensures { IfOk result (λ rows. rows ≡ map (λ row. row.now) list.now) }
 {

@@ -156,6 +156,16 @@ impl Rows {
         Ok(())
     }
 
+    /// Another list of the same rows. `Memory` comes only for want of memory.
+    #[tactic(auto, using(crate::proofs::Packing::size_of_rows, crate::proofs::Walk::appended))]
+    pub fn copied(&self) -> Result<Rows, Memory>
+        ensures { IfOk result (λ rows. rows ≡ self.now) }
+    {
+        let mut rows = Rows::new(self.alloc);
+        rows.push_all(self)?;
+        Ok(rows)
+    }
+
     /// Keeps the first `count` rows, or all where there are not more. The memory stays taken.
     #[tactic(auto, using(crate::proofs::Fronts::front_all))]
     pub fn truncate(&mut self, count: usize)

@@ -35,6 +35,7 @@ fn lists_are_appended(rt: HostRuntime) -> Result<(), Fail> {
     rows.push_all(&more)?;
     assert!(rt; are(&rows, &[&[3, 1], &[], &[65_535], &[0, 2, 4]]));
     assert!(rt; are(&more, &other));
+    assert!(rt; are(&more.copied()?, &other));
     Ok(())
 }
 
