@@ -14,19 +14,20 @@ use Rattle.triple_systems.proofs.Levels.{by_levels, levels_next, levels_same, le
 use Rattle.triple_systems.proofs.SymmetricLevels.{above, level_sets, symmetric_above}
 use Rattle.triple_systems.specs.Bose.{bose_blocks}
 use Rattle.triple_systems.specs.Squares.{IsIdempotent, IsSymmetric, half_sum}
+use Rattle.triple_systems.specs.declared.triples.Pairs.TheVariants.{Unordered}
 use Rattle.triple_systems.specs.Triples.{columns, levels}
 
 -- the columns of three groups, and the triples above their pairs over an idempotent square
 module _ (n : ℕ) (op : ℕ → ℕ → ℕ) (square : IsSymmetric n op) (idempotent : IsIdempotent n op) (pos : 0 < n) where
   abbrev blocks : List (List ℕ)
-  blocks = columns n n ++ levels n op 3
+  blocks = columns n n ++ levels Unordered n op 3
 
   -- two points of one group stand together once, in a triple
   same_group : (c x y : ℕ) → c < 3 → x < y → y < n → cover blocks (place n c x) (place n c y) ≡ 1
   unfolding levels
   same_group c x y k l m = omega (
     arith,
-    cover-append (columns n n) (levels n op 3) (place n c x) (place n c y),
+    cover-append (columns n n) (levels Unordered n op 3) (place n c x) (place n c y),
     columns_none n n (omega arith) c c x y (omega arith) m (omega arith),
     levels_same n op 1 (above n op square) (symmetric_above n op square) c x y k (omega arith) m (omega arith),
   )
@@ -37,13 +38,13 @@ module _ (n : ℕ) (op : ℕ → ℕ → ℕ) (square : IsSymmetric n op) (idemp
   next_group c x y k l m = elim (cases_eq y x) [
     | inl e ↦ rw e (omega (
       arith,
-      cover-append (columns n n) (levels n op 3) (place n c x) (place n ((c + 1) % 3) x),
+      cover-append (columns n n) (levels Unordered n op 3) (place n c x) (place n ((c + 1) % 3) x),
       columns_one n n (omega arith) c ((c + 1) % 3) x k (omega arith) l,
       levels_square n op 1 (above n op square) (symmetric_above n op square) c x x k l l (sym (idempotent x l)),
     ))
     | inr ne ↦ omega (
       arith,
-      cover-append (columns n n) (levels n op 3) (place n c x) (place n ((c + 1) % 3) y),
+      cover-append (columns n n) (levels Unordered n op 3) (place n c x) (place n ((c + 1) % 3) y),
       columns_none n n (omega arith) c ((c + 1) % 3) x y l m (omega arith),
       levels_next n op 1 (above n op square) (symmetric_above n op square) c x y k l m (λ e. ne (e ∙ idempotent x l)),
     )
@@ -52,7 +53,7 @@ module _ (n : ℕ) (op : ℕ → ℕ → ℕ) (square : IsSymmetric n op) (idemp
   -- so the blocks are a triple system
   idempotent_loose : IsLoose blocks (3 * n) (λ s. s ≡ 3) (λ x y. 1)
   idempotent_loose = record {
-    blocks = All-append (IsPointSet (3 * n) (λ s. s ≡ 3)) (columns n n) (levels n op 3) (column_sets n n (omega arith) (3 * n) below) (level_sets n op square (3 * n) below);
+    blocks = All-append (IsPointSet (3 * n) (λ s. s ≡ 3)) (columns n n) (levels Unordered n op 3) (column_sets n n (omega arith) (3 * n) below) (level_sets n op square (3 * n) below);
     pairs = by_levels blocks n 1 pos same_group next_group;
   }
     where

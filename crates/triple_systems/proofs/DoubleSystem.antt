@@ -21,7 +21,8 @@ use Rattle.triple_systems.proofs.OrderedPairs.{ordered_level, ordered_above, ord
 use Rattle.triple_systems.proofs.InfiniteTriples.{infinite_sets, infinite_none, infinite_one, infinite_two}
 use Rattle.triple_systems.specs.Squares.{IsIdempotent, IsLatin, idempotent}
 use Rattle.triple_systems.specs.Double.{double_blocks, double_columns, six_point_blocks}
-use Rattle.triple_systems.specs.Triples.{columns, ordered_levels, infinite_triples}
+use Rattle.triple_systems.specs.declared.triples.Pairs.TheVariants.{Ordered}
+use Rattle.triple_systems.specs.Triples.{columns, levels, infinite_triples}
 
 -- ---- two points of one column stand twice in C, and no others of the three groups do
 pub record IsColumns (n : ℕ) (C : List (List ℕ)) : Type 0 where
@@ -30,29 +31,29 @@ pub record IsColumns (n : ℕ) (C : List (List ℕ)) : Type 0 where
 
 module _ (n : ℕ) (op : ℕ → ℕ → ℕ) (square : IsLatin n op) (self : IsIdempotent n op) (pos : 0 < n) (C : List (List ℕ)) (cols : IsColumns n C) where
   abbrev blocks : List (List ℕ)
-  blocks = C ++ ordered_levels n op 3
+  blocks = C ++ levels Ordered n op 3
 
   same_group : (c x y : ℕ) → c < 3 → x < y → y < n → cover blocks (place n c x) (place n c y) ≡ 2
-  unfolding ordered_levels
+  unfolding levels
   same_group c x y k l m = omega (
     arith,
-    cover-append C (ordered_levels n op 3) (place n c x) (place n c y),
+    cover-append C (levels Ordered n op 3) (place n c x) (place n c y),
     cols.apart c c x y k k (omega arith) m (omega arith),
     levels_same n op 2 (ordered_level n op square self) (ordered_above n op square self) c x y k (omega arith) m (omega arith),
   )
 
   next_group : (c x y : ℕ) → c < 3 → x < n → y < n → cover blocks (place n c x) (place n ((c + 1) % 3) y) ≡ 2
-  unfolding ordered_levels
+  unfolding levels
   next_group c x y k l m = elim (cases_eq y x) [
     | inl e ↦ rw e (omega (
       arith,
-      cover-append C (ordered_levels n op 3) (place n c x) (place n ((c + 1) % 3) x),
+      cover-append C (levels Ordered n op 3) (place n c x) (place n ((c + 1) % 3) x),
       cols.same c ((c + 1) % 3) x k refl l,
       levels_square n op 2 (ordered_level n op square self) (ordered_above n op square self) c x x k l l (sym (self x l)),
     ))
     | inr ne ↦ omega (
       arith,
-      cover-append C (ordered_levels n op 3) (place n c x) (place n ((c + 1) % 3) y),
+      cover-append C (levels Ordered n op 3) (place n c x) (place n ((c + 1) % 3) y),
       cols.apart c ((c + 1) % 3) x y k (omega arith) l m (omega arith),
       levels_next n op 2 (ordered_level n op square self) (ordered_above n op square self) c x y k l m (λ e. ne (e ∙ self x l)),
     )
@@ -64,15 +65,15 @@ module _ (n : ℕ) (op : ℕ → ℕ → ℕ) (square : IsLatin n op) (self : Is
   -- with all three groups and no more
   pub double_loose : All (IsPointSet (3 * n) (λ s. s ≡ 3)) C → IsLoose blocks (3 * n) (λ s. s ≡ 3) (λ x y. 2)
   double_loose sets = record {
-    blocks = All-append (IsPointSet (3 * n) (λ s. s ≡ 3)) C (ordered_levels n op 3) sets (ordered_level_sets n op square self (3 * n) (λ i x l m. place-below n 3 i x l m));
+    blocks = All-append (IsPointSet (3 * n) (λ s. s ≡ 3)) C (levels Ordered n op 3) sets (ordered_level_sets n op square self (3 * n) (λ i x l m. place-below n 3 i x l m));
     pairs = three_groups;
   }
 
   -- and with one point more
   pub double_loose_more : All (IsPointSet (3 * n + 1) (λ s. s ≡ 3)) C → ((c x : ℕ) → c < 3 → x < n → cover C (place n c x) (place n 3 0) ≡ 2) → IsLoose blocks (3 * n + 1) (λ s. s ≡ 3) (λ x y. 2)
-  unfolding ordered_levels
+  unfolding levels
   double_loose_more sets last = record {
-    blocks = All-append (IsPointSet (3 * n + 1) (λ s. s ≡ 3)) C (ordered_levels n op 3) sets (ordered_level_sets n op square self (3 * n + 1) (λ i x l m. omega (arith, place-below n 3 i x l m)));
+    blocks = All-append (IsPointSet (3 * n + 1) (λ s. s ≡ 3)) C (levels Ordered n op 3) sets (ordered_level_sets n op square self (3 * n + 1) (λ i x l m. omega (arith, place-below n 3 i x l m)));
     pairs = λ p q l m. elim (cases_lt q (3 * n)) [
       | inl a ↦ three_groups p q l a
       | inr a ↦ let e : q ≡ place n 3 0 = omega (arith, place-zero n 3) in let f = place_of n p in rw (e, ← f) (ending (p / n) (p % n) (div_below p n 3 pos (omega arith)) (mod-lt p pos))
@@ -82,7 +83,7 @@ module _ (n : ℕ) (op : ℕ → ℕ → ℕ) (square : IsLatin n op) (self : Is
       ending : (c x : ℕ) → c < 3 → x < n → cover blocks (place n c x) (place n 3 0) ≡ 2
       ending c x k l = omega (
         arith,
-        cover-append C (ordered_levels n op 3) (place n c x) (place n 3 0),
+        cover-append C (levels Ordered n op 3) (place n c x) (place n 3 0),
         last c x k l,
         levels_beyond n op 2 (ordered_level n op square self) (ordered_above n op square self) c x 3 0 (omega arith) l pos,
       )
@@ -161,7 +162,7 @@ pub double_six : double_blocks 6 ≡ (six_point_blocks 5)
 unfolding double_blocks
 double_six = refl
 
-pub double_else : (v : ℕ) → v ≢ 6 → double_blocks v ≡ double_columns (v / 3) (v % 3) ++ ordered_levels (v / 3) (idempotent (v / 3)) 3
+pub double_else : (v : ℕ) → v ≢ 6 → double_blocks v ≡ double_columns (v / 3) (v % 3) ++ levels Ordered (v / 3) (idempotent (v / 3)) 3
 unfolding double_blocks
 double_else v ne = cond-false (v == 6) _ _ (ne_eqb v 6 ne)
 
@@ -173,14 +174,14 @@ columns-more : (n rest : ℕ) → rest ≢ 0 → double_columns n rest ≡ colum
 unfolding double_columns
 columns-more n rest e = ap (λ C. columns n n ++ C) (cond-false (rest == 0) _ _ (ne_eqb rest 0 e))
 
-double_whole : (n : ℕ) → 0 < n → n ≢ 2 → IsBibd (canonical ((columns n n ++ columns n n) ++ ordered_levels n (idempotent n) 3)) (3 * n) 3 2
+double_whole : (n : ℕ) → 0 < n → n ≢ 2 → IsBibd (canonical ((columns n n ++ columns n n) ++ levels Ordered n (idempotent n) 3)) (3 * n) 3 2
 double_whole n pos ne = design_from_loose (3 * n) (λ s. s ≡ 3) _ (λ x y. 2) (double_loose n (idempotent n) (idempotent_latin n pos ne) (idempotent-self n ne) pos (columns n n ++ columns n n) (twice n)
     (All-append (IsPointSet (3 * n) (λ s. s ≡ 3)) (columns n n) (columns n n) sets sets))
   where
     sets : All (IsPointSet (3 * n) (λ s. s ≡ 3)) (columns n n)
     sets = column_sets n n (omega arith) (3 * n) (λ i x l m. place-below n 3 i x l m)
 
-double_more : (n : ℕ) → 0 < n → n ≢ 2 → IsBibd (canonical ((columns n n ++ infinite_triples n 0 n 3) ++ ordered_levels n (idempotent n) 3)) (3 * n + 1) 3 2
+double_more : (n : ℕ) → 0 < n → n ≢ 2 → IsBibd (canonical ((columns n n ++ infinite_triples n 0 n 3) ++ levels Ordered n (idempotent n) 3)) (3 * n + 1) 3 2
 double_more n pos ne = design_from_loose (3 * n + 1) (λ s. s ≡ 3) _ (λ x y. 2) (double_loose_more n (idempotent n) (idempotent_latin n pos ne) (idempotent-self n ne) pos (columns n n ++ infinite_triples n 0 n 3) (with_infinite n pos)
     (All-append (IsPointSet (3 * n + 1) (λ s. s ≡ 3)) (columns n n) (infinite_triples n 0 n 3) (column_sets n n (omega arith) (3 * n + 1) below) (infinite_sets n 0 n (omega arith) (3 * n + 1) below (omega (arith, place-zero n 3))))
     (with_infinite_last n pos))
@@ -192,9 +193,9 @@ pub double_design : (v : ℕ) → 3 ≤ v → v % 3 ≢ 2 → v ≢ 7 → IsBibd
 double_design v three shape seven = elim (cases_eq v 6) [
   | inl e ↦ rw (e, double_six) (design_from_loose 6 (λ s. s ≡ 3) (six_point_blocks 5) (λ x y. 2) six_loose)
   | inr ne ↦ subst (λ B. IsBibd (canonical B) v 3 2) (sym (double_else v ne)) (elim (cases_eq (v % 3) 0) [
-    | inl a ↦ let e : 3 * (v / 3) ≡ v = omega arith in subst (λ w. IsBibd (canonical (double_columns (v / 3) (v % 3) ++ ordered_levels (v / 3) (idempotent (v / 3)) 3)) w 3 2) e
+    | inl a ↦ let e : 3 * (v / 3) ≡ v = omega arith in subst (λ w. IsBibd (canonical (double_columns (v / 3) (v % 3) ++ levels Ordered (v / 3) (idempotent (v / 3)) 3)) w 3 2) e
         (rw (columns-whole (v / 3) (v % 3) a) (double_whole (v / 3) (omega arith) (omega arith)))
-    | inr a ↦ let e : 3 * (v / 3) + 1 ≡ v = omega arith in subst (λ w. IsBibd (canonical (double_columns (v / 3) (v % 3) ++ ordered_levels (v / 3) (idempotent (v / 3)) 3)) w 3 2) e
+    | inr a ↦ let e : 3 * (v / 3) + 1 ≡ v = omega arith in subst (λ w. IsBibd (canonical (double_columns (v / 3) (v % 3) ++ levels Ordered (v / 3) (idempotent (v / 3)) 3)) w 3 2) e
         (rw (columns-more (v / 3) (v % 3) a) (double_more (v / 3) (omega arith) (omega arith)))
   ])
 ]

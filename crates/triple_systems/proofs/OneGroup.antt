@@ -16,9 +16,11 @@ use Rattle.design_base.specs.Canonical.{canonical}
 use Rattle.triple_systems.proofs.IdempotentSquare.{idempotent-self, idempotent_latin}
 use Rattle.triple_systems.proofs.HalfSums.{half_sum-self, half_sum_square}
 use Rattle.triple_systems.proofs.OrderedPairs.{cover-ordered_pairs}
+use Rattle.triple_systems.proofs.Pairs.{unordered_triples}
 use Rattle.triple_systems.specs.Squares.{IsIdempotent, IsLatin, IsSymmetric, half_sum, idempotent}
 use Rattle.triple_systems.specs.OneGroup.{middle_blocks, ordered_blocks}
-use Rattle.triple_systems.specs.Triples.{triple, triples_above, ordered_triples_with, ordered_triples_above, triples_with}
+use Rattle.triple_systems.specs.declared.triples.Pairs.TheVariants.{Ordered, Unordered}
+use Rattle.triple_systems.specs.Triples.{triple, triples_above, triples_with}
 
 -- in the group 0 a point is its number
 in_group : (n p q r : ℕ) → triple n 0 0 p q r ≡ p ∷ q ∷ r ∷ []
@@ -90,8 +92,8 @@ module _ (n : ℕ) (op : ℕ → ℕ → ℕ) (square : IsLatin n op) (self : Is
   pair_one : (x y : ℕ) → x < n → y < n → grid n n (λ q p. one ((q == x) && (p == y))) ≡ 1
   pair_one x y l m = grid_one n n x y (λ q p. (q == x) && (p == y)) l m (both_equal-from x y x y refl refl) (λ q p i j t. both_equal q p x y t)
 
-  six_covers : (x y : ℕ) → x < n → y < n → x ≢ y → cover (ordered_triples_above n op 0 0 n) x y ≡ 6
-  unfolding ordered_triples_above ordered_triples_with
+  six_covers : (x y : ℕ) → x < n → y < n → x ≢ y → cover (triples_above Ordered n op 0 0 n) x y ≡ 6
+  unfolding triples_above triples_with
   six_covers x y l m ne = cover-ordered_pairs n (λ p q. triple n 0 0 p q (op p q)) x y
       ∙ grid_same n n (λ q p. one (Both x y q p)) (λ q p. one (a q p) + (one (b q p) + (one (c q p) + (one (d q p) + (one (e q p) + one (f q p)))))) (λ q p i j. ways x y q p ne i j)
       ∙ grid_add n n (λ q p. one (a q p)) (λ q p. one (b q p) + (one (c q p) + (one (d q p) + (one (e q p) + one (f q p)))))
@@ -119,8 +121,8 @@ module _ (n : ℕ) (op : ℕ → ℕ → ℕ) (square : IsLatin n op) (self : Is
       f : ℕ → ℕ → Bool
       f q p = (q == y) && (op p q == x)
 
-  ordered_loose : IsLoose (ordered_triples_above n op 0 0 n) n (λ s. s ≡ 3) (λ x y. 6)
-  unfolding ordered_triples_above ordered_triples_with
+  ordered_loose : IsLoose (triples_above Ordered n op 0 0 n) n (λ s. s ≡ 3) (λ x y. 6)
+  unfolding triples_above triples_with
   ordered_loose = record {
     blocks = All-join_below S n _ (λ q h. All-join_below S n _ (λ p k. cond_both (p == q) _ _ (All S) (λ e. All-nil S) (λ e. All-cons S (triple n 0 0 p q (op p q)) [] (set_of p q k h (eqb-false p q e)) (All-nil S))));
     pairs = λ x y l m. six_covers x y (omega arith) m (omega arith);
@@ -185,9 +187,9 @@ module _ (n : ℕ) (op : ℕ → ℕ → ℕ) (square : IsSymmetric n op) (self 
   abbrev ways_of : (ℕ → ℕ → Bool) → ℕ → ℕ
   ways_of p q = sum_below q (λ x. one (p x q))
 
-  three_covers : (x y : ℕ) → x < y → y < n → cover (triples_above n op 0 0 n) x y ≡ 3
-  unfolding triples_above triples_with
-  three_covers x y l m = cover-pairs n (λ p q. triple n 0 0 p q (op p q)) x y
+  three_covers : (x y : ℕ) → x < y → y < n → cover (triples_above Unordered n op 0 0 n) x y ≡ 3
+  three_covers x y l m = ap (λ B. cover B x y) (unordered_triples n op 0 0 n)
+      ∙ cover-pairs n (λ p q. triple n 0 0 p q (op p q)) x y
       ∙ sum_below-same n _ (λ q. ways_of (Pair x y) q + (ways_of (Through x y) q + ways_of (Through y x) q)) (λ q h.
       sum_below-same q _ (λ p. one (Pair x y p q) + (one (Through x y p q) + one (Through y x p q))) (λ p k. let d = apart p q k h in
       ap (λ b. one (holds x b && holds y b)) (in_group n p q (op p q)) ∙ three_ways x y p q (op p q) (omega arith) (omega arith) d.0 d.1)
@@ -196,11 +198,10 @@ module _ (n : ℕ) (op : ℕ → ℕ → ℕ) (square : IsSymmetric n op) (self 
       ∙ sum_below-add n (ways_of (Pair x y)) (λ q. ways_of (Through x y) q + ways_of (Through y x) q)
       ∙ ap₂ (λ s t. s + t) (one_pair x y l m) (sum_below-add n (ways_of (Through x y)) (ways_of (Through y x)) ∙ ap₂ (λ s t. s + t) (one_through x y (omega arith) m (omega arith)) (one_through y x m (omega arith) (omega arith)))
 
-  middle_loose : IsLoose (triples_above n op 0 0 n) n (λ s. s ≡ 3) (λ x y. 3)
-  unfolding triples_above triples_with
+  middle_loose : IsLoose (triples_above Unordered n op 0 0 n) n (λ s. s ≡ 3) (λ x y. 3)
   middle_loose = record {
-    blocks = All-join_below S n _ (λ q h. All-from_recursion S _ (each_below S q (λ p. triple n 0 0 p q (op p q)) (λ p k. let d = apart p q k h in
-        subst S (sym (in_group n p q (op p q))) (three_set n p q (op p q) (omega arith) d.0 d.1 (omega arith) h (square.latin.small p q (omega arith) h)))));
+    blocks = subst (All S) (sym (unordered_triples n op 0 0 n)) (All-join_below S n _ (λ q h. All-from_recursion S _ (each_below S q (λ p. triple n 0 0 p q (op p q)) (λ p k. let d = apart p q k h in
+        subst S (sym (in_group n p q (op p q))) (three_set n p q (op p q) (omega arith) d.0 d.1 (omega arith) h (square.latin.small p q (omega arith) h))))));
     pairs = three_covers;
   }
     where
@@ -209,7 +210,7 @@ module _ (n : ℕ) (op : ℕ → ℕ → ℕ) (square : IsSymmetric n op) (self 
 
 pub middle_design : (v : ℕ) → v % 2 ≡ 1 → IsBibd (canonical (middle_blocks v)) v 3 3
 unfolding middle_blocks
-middle_design v shape = subst (λ w. IsBibd (canonical (triples_above w (half_sum w) 0 0 w)) w 3 3) (sym (parts v shape)) (design_from_loose _ (λ s. s ≡ 3) _ (λ x y. 3) (middle_loose (2 * (v / 2) + 1) (half_sum (2 * (v / 2) + 1)) (half_sum_square (v / 2)) (half_sum-self (v / 2))))
+middle_design v shape = subst (λ w. IsBibd (canonical (triples_above Unordered w (half_sum w) 0 0 w)) w 3 3) (sym (parts v shape)) (design_from_loose _ (λ s. s ≡ 3) _ (λ x y. 3) (middle_loose (2 * (v / 2) + 1) (half_sum (2 * (v / 2) + 1)) (half_sum_square (v / 2)) (half_sum-self (v / 2))))
   where
     parts : (v : ℕ) → v % 2 ≡ 1 → v ≡ 2 * (v / 2) + 1
     parts v shape = omega arith

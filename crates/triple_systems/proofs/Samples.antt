@@ -9,7 +9,7 @@ use Rattle.triple_systems.specs.Double.{double_blocks, double_columns, six_point
 use Rattle.triple_systems.specs.OneGroup.{middle_blocks, ordered_blocks}
 use Rattle.triple_systems.specs.Skolem.{skolem_blocks}
 use Rattle.triple_systems.specs.Squares.{half_idempotent, half_sum, halve, idempotent, prolonged}
-use Rattle.triple_systems.specs.Triples.{columns, infinite_triples, infinite_triples_of, levels, ordered_levels, ordered_triples_above, ordered_triples_with, triples_above, triples_with}
+use Rattle.triple_systems.specs.Triples.{columns, infinite_triples, infinite_triples_of, levels, triples_above, triples_with}
 
 -- the lines of the affine plane of order 3
 bose_of_nine :
@@ -40,7 +40,7 @@ double_of_six = refl
 double_of_four :
     canonical (double_blocks 4)
     ≡ (0 ∷ 1 ∷ 2 ∷ []) ∷ (0 ∷ 1 ∷ 3 ∷ []) ∷ (0 ∷ 2 ∷ 3 ∷ []) ∷ (1 ∷ 2 ∷ 3 ∷ []) ∷ []
-unfolding canonical lex_le sort_by insert_by join_below place double_blocks double_columns columns infinite_triples infinite_triples_of ordered_levels ordered_triples_above ordered_triples_with idempotent half_sum
+unfolding canonical lex_le sort_by insert_by join_below place double_blocks double_columns columns infinite_triples infinite_triples_of levels triples_above triples_with idempotent half_sum
 double_of_four = refl
 
 -- each two of five points in three blocks
@@ -57,7 +57,7 @@ ordered_of_four :
     ≡ (0 ∷ 1 ∷ 2 ∷ []) ∷ (0 ∷ 1 ∷ 2 ∷ []) ∷ (0 ∷ 1 ∷ 2 ∷ []) ∷ (0 ∷ 1 ∷ 3 ∷ []) ∷ (0 ∷ 1 ∷ 3 ∷ []) ∷ (0 ∷ 1 ∷ 3 ∷ [])
     ∷ (0 ∷ 2 ∷ 3 ∷ []) ∷ (0 ∷ 2 ∷ 3 ∷ []) ∷ (0 ∷ 2 ∷ 3 ∷ []) ∷ (1 ∷ 2 ∷ 3 ∷ []) ∷ (1 ∷ 2 ∷ 3 ∷ []) ∷ (1 ∷ 2 ∷ 3 ∷ [])
     ∷ []
-unfolding canonical lex_le sort_by insert_by join_below place ordered_blocks ordered_triples_above ordered_triples_with idempotent prolonged half_sum
+unfolding canonical lex_le sort_by insert_by join_below place ordered_blocks triples_above triples_with idempotent prolonged half_sum
 ordered_of_four = refl
 
 -- the square of order 4: half sums of order 3, whose entries at x and x + 1 stand in the last row and column

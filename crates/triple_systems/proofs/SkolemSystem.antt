@@ -17,6 +17,7 @@ use Rattle.triple_systems.proofs.HalfIdempotent.{half_idempotent_high, half_idem
 use Rattle.triple_systems.proofs.InfiniteTriples.{infinite_sets, infinite_none, infinite_one}
 use Rattle.triple_systems.specs.Squares.{IsSymmetric, half_idempotent}
 use Rattle.triple_systems.specs.Skolem.{skolem_blocks}
+use Rattle.triple_systems.specs.declared.triples.Pairs.TheVariants.{Unordered}
 use Rattle.triple_systems.specs.Triples.{columns, levels, infinite_triples}
 
 module _ (t : ℕ) (pos : 0 < t) where
@@ -24,10 +25,10 @@ module _ (t : ℕ) (pos : 0 < t) where
   n = 2 * t
 
   abbrev blocks : List (List ℕ)
-  blocks = columns n t ++ (infinite_triples n t t 3 ++ levels n (half_idempotent t) 3)
+  blocks = columns n t ++ (infinite_triples n t t 3 ++ levels Unordered n (half_idempotent t) 3)
 
-  whole : (p q : ℕ) → cover blocks p q ≡ cover (columns n t) p q + (cover (infinite_triples n t t 3) p q + cover (levels n (half_idempotent t) 3) p q)
-  whole p q = cover-append (columns n t) (infinite_triples n t t 3 ++ levels n (half_idempotent t) 3) p q ∙ ap (λ s. cover (columns n t) p q + s) (cover-append (infinite_triples n t t 3) (levels n (half_idempotent t) 3) p q)
+  whole : (p q : ℕ) → cover blocks p q ≡ cover (columns n t) p q + (cover (infinite_triples n t t 3) p q + cover (levels Unordered n (half_idempotent t) 3) p q)
+  whole p q = cover-append (columns n t) (infinite_triples n t t 3 ++ levels Unordered n (half_idempotent t) 3) p q ∙ ap (λ s. cover (columns n t) p q + s) (cover-append (infinite_triples n t t 3) (levels Unordered n (half_idempotent t) 3) p q)
 
   square : IsSymmetric n (half_idempotent t)
   square = half_idempotent_square t pos
@@ -103,8 +104,8 @@ module _ (t : ℕ) (pos : 0 < t) where
 
   skolem_loose : IsLoose blocks (6 * t + 1) (λ s. s ≡ 3) (λ x y. 1)
   skolem_loose = record {
-    blocks = All-append (IsPointSet (6 * t + 1) (λ s. s ≡ 3)) (columns n t) (infinite_triples n t t 3 ++ levels n (half_idempotent t) 3) (column_sets n t (omega arith) (6 * t + 1) below)
-        (All-append (IsPointSet (6 * t + 1) (λ s. s ≡ 3)) (infinite_triples n t t 3) (levels n (half_idempotent t) 3) (infinite_sets n t t (omega arith) (6 * t + 1) below (omega (arith, place-zero n 3))) (level_sets n (half_idempotent t) square (6 * t + 1) below));
+    blocks = All-append (IsPointSet (6 * t + 1) (λ s. s ≡ 3)) (columns n t) (infinite_triples n t t 3 ++ levels Unordered n (half_idempotent t) 3) (column_sets n t (omega arith) (6 * t + 1) below)
+        (All-append (IsPointSet (6 * t + 1) (λ s. s ≡ 3)) (infinite_triples n t t 3) (levels Unordered n (half_idempotent t) 3) (infinite_sets n t t (omega arith) (6 * t + 1) below (omega (arith, place-zero n 3))) (level_sets n (half_idempotent t) square (6 * t + 1) below));
     pairs = λ p q l m. elim (cases_lt q (3 * n)) [
       | inl a ↦ by_levels blocks n 1 (omega arith) same_group next_group p q l a
       | inr a ↦ let e : q ≡ place n 3 0 = omega (arith, place-zero n 3) in let f = place_of n p in rw (e, ← f) (with_infinite (p / n) (p % n) (div_below p n 3 (omega arith) (omega arith)) (mod-lt p (omega arith)))

@@ -4,7 +4,8 @@ use Rattle.counting.proofs.Booleans.{cond-false, cond-true, eq-eqb, ne_eqb}
 use Rattle.std.proofs.lemmas.List.{append-nil, append_assoc}
 use Rattle.counting.proofs.Counts.{join_below_more, join_below_none}
 use Rattle.triple_systems.specs.Double.{six_point_blocks}
-use Rattle.triple_systems.specs.Triples.{column, columns, levels, ordered_levels, triple, triples_above, ordered_triples_with, ordered_triples_above, triples_with, infinite_triple, infinite_triples, infinite_triples_of}
+use Rattle.triple_systems.specs.declared.triples.Pairs.{Pairs}
+use Rattle.triple_systems.specs.Triples.{column, columns, infinite_triple, infinite_triples, infinite_triples_of, levels, partners, triple, triples_above, triples_with}
 
 pub columns-none : (n : ℕ) → columns n 0 ≡ []
 unfolding columns
@@ -19,54 +20,30 @@ module _ (n : ℕ) (op : ℕ → ℕ → ℕ) where
   unfolding triples_with
   triples_with-none i j y = join_below_none _
 
-  pub triples_with-more : (i j y m : ℕ) → triples_with n op i j y (m + 1) ≡ triples_with n op i j y m ++ triple n i j m y (op m y) ∷ []
+  pub triples_with-same : (i j y m : ℕ) → m ≡ y → triples_with n op i j y (m + 1) ≡ triples_with n op i j y m
   unfolding triples_with
-  triples_with-more i j y m = join_below_more m _
+  triples_with-same i j y m e = join_below_more m _ ∙ ap (λ t. triples_with n op i j y m ++ t) (cond-true (m == y) _ _ (eq-eqb m y e)) ∙ append-nil (triples_with n op i j y m)
 
-  pub triples_above-none : (i j : ℕ) → triples_above n op i j 0 ≡ []
+  pub triples_with-more : (i j y m : ℕ) → m ≢ y → triples_with n op i j y (m + 1) ≡ triples_with n op i j y m ++ triple n i j m y (op m y) ∷ []
+  unfolding triples_with
+  triples_with-more i j y m ne = join_below_more m _ ∙ ap (λ t. triples_with n op i j y m ++ t) (cond-false (m == y) _ _ (ne_eqb m y ne))
+
+module _ (pairs : Pairs) (n : ℕ) (op : ℕ → ℕ → ℕ) where
+  pub triples_above-none : (i j : ℕ) → triples_above pairs n op i j 0 ≡ []
   unfolding triples_above
   triples_above-none i j = join_below_none _
 
-  pub triples_above-more : (i j m : ℕ) → triples_above n op i j (m + 1) ≡ triples_above n op i j m ++ triples_with n op i j m m
+  pub triples_above-more : (i j m : ℕ) → triples_above pairs n op i j (m + 1) ≡ triples_above pairs n op i j m ++ triples_with n op i j m (partners pairs n m)
   unfolding triples_above
   triples_above-more i j m = join_below_more m _
 
-  pub levels-none : levels n op 0 ≡ []
+  pub levels-none : levels pairs n op 0 ≡ []
   unfolding levels
   levels-none = join_below_none _
 
-  pub levels-more : (m : ℕ) → levels n op (m + 1) ≡ levels n op m ++ triples_above n op m ((m + 1) % 3) n
+  pub levels-more : (m : ℕ) → levels pairs n op (m + 1) ≡ levels pairs n op m ++ triples_above pairs n op m ((m + 1) % 3) n
   unfolding levels
   levels-more m = join_below_more m _
-
-module _ (n : ℕ) (op : ℕ → ℕ → ℕ) where
-  pub ordered_triples_with-none : (i j y : ℕ) → ordered_triples_with n op i j y 0 ≡ []
-  unfolding ordered_triples_with
-  ordered_triples_with-none i j y = join_below_none _
-
-  pub ordered_triples_with-same : (i j y m : ℕ) → m ≡ y → ordered_triples_with n op i j y (m + 1) ≡ ordered_triples_with n op i j y m
-  unfolding ordered_triples_with
-  ordered_triples_with-same i j y m e = join_below_more m _ ∙ ap (λ t. ordered_triples_with n op i j y m ++ t) (cond-true (m == y) _ _ (eq-eqb m y e)) ∙ append-nil (ordered_triples_with n op i j y m)
-
-  pub ordered_triples_with-more : (i j y m : ℕ) → m ≢ y → ordered_triples_with n op i j y (m + 1) ≡ ordered_triples_with n op i j y m ++ triple n i j m y (op m y) ∷ []
-  unfolding ordered_triples_with
-  ordered_triples_with-more i j y m ne = join_below_more m _ ∙ ap (λ t. ordered_triples_with n op i j y m ++ t) (cond-false (m == y) _ _ (ne_eqb m y ne))
-
-  pub ordered_triples_above-none : (i j : ℕ) → ordered_triples_above n op i j 0 ≡ []
-  unfolding ordered_triples_above
-  ordered_triples_above-none i j = join_below_none _
-
-  pub ordered_triples_above-more : (i j m : ℕ) → ordered_triples_above n op i j (m + 1) ≡ ordered_triples_above n op i j m ++ ordered_triples_with n op i j m n
-  unfolding ordered_triples_above
-  ordered_triples_above-more i j m = join_below_more m _
-
-  pub ordered_levels-none : ordered_levels n op 0 ≡ []
-  unfolding ordered_levels
-  ordered_levels-none = join_below_none _
-
-  pub ordered_levels-more : (m : ℕ) → ordered_levels n op (m + 1) ≡ ordered_levels n op m ++ ordered_triples_above n op m ((m + 1) % 3) n
-  unfolding ordered_levels
-  ordered_levels-more m = join_below_more m _
 
 module _ (n s : ℕ) where
   pub infinite_triples_of-none : (i : ℕ) → infinite_triples_of n s i 0 ≡ []
@@ -93,4 +70,22 @@ pub six_point_blocks-more : (m : ℕ) → six_point_blocks (m + 1) ≡ six_point
 unfolding six_point_blocks
 six_point_blocks-more m = join_below_more m _
 
-pub ruleset steps = (append-nil, append_assoc, columns-none, columns-more, triples_with-none, triples_with-more, triples_above-none, triples_above-more, levels-none, levels-more, ordered_triples_with-none, ordered_triples_with-same, ordered_triples_with-more, ordered_triples_above-none, ordered_triples_above-more, ordered_levels-none, ordered_levels-more, infinite_triples_of-none, infinite_triples_of-more, infinite_triples-none, infinite_triples-more, six_point_blocks-none, six_point_blocks-more)
+pub ruleset steps = (
+  append-nil,
+  append_assoc,
+  columns-none,
+  columns-more,
+  triples_with-none,
+  triples_with-same,
+  triples_with-more,
+  triples_above-none,
+  triples_above-more,
+  levels-none,
+  levels-more,
+  infinite_triples_of-none,
+  infinite_triples_of-more,
+  infinite_triples-none,
+  infinite_triples-more,
+  six_point_blocks-none,
+  six_point_blocks-more,
+)

@@ -3,7 +3,8 @@ use Rattle.std.proofs.Common.{[], cond, ◌++◌, ◌∷◌}
 use Rattle.std.specs.Prelude.{List, ℕ, ◌%◌, ◌+◌, ◌/◌, ◌==◌}
 use Rattle.counting.specs.Sums.{join_below}
 use Rattle.triple_systems.specs.Squares.{idempotent}
-use Rattle.triple_systems.specs.Triples.{columns, infinite_triples, ordered_levels}
+use Rattle.triple_systems.specs.declared.triples.Pairs.TheVariants.{Ordered}
+use Rattle.triple_systems.specs.Triples.{columns, infinite_triples, levels}
 
 -- ten blocks on six points, two for each c below m = 5
 unfoldable pub six_point_blocks : ℕ → List (List ℕ)
@@ -16,4 +17,4 @@ double_columns n rest = columns n n ++ cond (rest == 0) (columns n n) (infinite_
 -- with three groups of n = v / 3 points, and one more where 3 does not divide v: the columns, and above each ordered pair
 -- of each group their product in the next group; the square has no order 2, so six points have a list of their own
 unfoldable pub double_blocks : ℕ → List (List ℕ)
-double_blocks v = cond (v == 6) (six_point_blocks 5) (let n = v / 3 in double_columns n (v % 3) ++ ordered_levels n (idempotent n) 3)
+double_blocks v = cond (v == 6) (six_point_blocks 5) (let n = v / 3 in double_columns n (v % 3) ++ levels Ordered n (idempotent n) 3)

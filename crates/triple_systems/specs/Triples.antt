@@ -3,6 +3,8 @@ use Rattle.std.specs.Prelude.{List, [], ℕ, ◌%◌, ◌+◌, ◌∷◌, ◌==�
 use Rattle.std.proofs.Common.{cond}
 use Rattle.counting.specs.Sums.{join_below, list_below}
 use Rattle.design_base.specs.Arrays.{place}
+use Rattle.triple_systems.specs.declared.triples.Pairs.{Pairs}
+use Rattle.triple_systems.specs.declared.triples.Pairs.TheVariants.{Ordered, Unordered}
 
 -- the point x of each of the groups 0, 1 and 2
 abbrev pub column : ℕ → ℕ → List ℕ
@@ -16,33 +18,24 @@ columns n m = list_below m (λ x. column n x)
 abbrev pub triple : ℕ → ℕ → ℕ → ℕ → ℕ → ℕ → List ℕ
 triple n i j x y z = place n i x ∷ place n i y ∷ place n j z ∷ []
 
--- ---- above the pairs x < y
+-- ---- above pairs of different numbers
 
--- the triples above the pairs of y and each x below m: the pair is in group i, its product in group j
+-- the numbers x beside y are those below this: those below y, so that each pair comes once, or all below n, so that it comes in both orders
+abbrev pub partners : Pairs → ℕ → ℕ → ℕ
+partners Unordered n y = y
+partners Ordered n y = n
+
+-- the triples above the pairs of y and each other x below m: the pair is in group i, its product in group j
 unfoldable pub triples_with : ℕ → (ℕ → ℕ → ℕ) → ℕ → ℕ → ℕ → ℕ → List (List ℕ)
-triples_with n op i j y m = list_below m (λ x. triple n i j x y (op x y))
+triples_with n op i j y m = join_below m (λ x. cond (x == y) [] (triple n i j x y (op x y) ∷ []))
 
--- the triples above the pairs x < y below m
-unfoldable pub triples_above : ℕ → (ℕ → ℕ → ℕ) → ℕ → ℕ → ℕ → List (List ℕ)
-triples_above n op i j m = join_below m (λ y. triples_with n op i j y y)
+-- the triples above the pairs of each y below m
+unfoldable pub triples_above : Pairs → ℕ → (ℕ → ℕ → ℕ) → ℕ → ℕ → ℕ → List (List ℕ)
+triples_above pairs n op i j m = join_below m (λ y. triples_with n op i j y (partners pairs n y))
 
 -- the triples above all pairs of each group i below m, with the products in the next of the groups 0, 1 and 2
-unfoldable pub levels : ℕ → (ℕ → ℕ → ℕ) → ℕ → List (List ℕ)
-levels n op m = join_below m (λ i. triples_above n op i ((i + 1) % 3) n)
-
--- ---- above the ordered pairs of different numbers
-
--- the triples above the ordered pairs of each other x below m and y
-unfoldable pub ordered_triples_with : ℕ → (ℕ → ℕ → ℕ) → ℕ → ℕ → ℕ → ℕ → List (List ℕ)
-ordered_triples_with n op i j y m = join_below m (λ x. cond (x == y) [] (triple n i j x y (op x y) ∷ []))
-
--- the triples above the ordered pairs of each other number below n and each y below m
-unfoldable pub ordered_triples_above : ℕ → (ℕ → ℕ → ℕ) → ℕ → ℕ → ℕ → List (List ℕ)
-ordered_triples_above n op i j m = join_below m (λ y. ordered_triples_with n op i j y n)
-
--- the triples above all ordered pairs of each group i below m, with the products in the next of the groups 0, 1 and 2
-unfoldable pub ordered_levels : ℕ → (ℕ → ℕ → ℕ) → ℕ → List (List ℕ)
-ordered_levels n op m = join_below m (λ i. ordered_triples_above n op i ((i + 1) % 3) n)
+unfoldable pub levels : Pairs → ℕ → (ℕ → ℕ → ℕ) → ℕ → List (List ℕ)
+levels pairs n op m = join_below m (λ i. triples_above pairs n op i ((i + 1) % 3) n)
 
 -- ---- with the infinite point, which comes after three groups
 

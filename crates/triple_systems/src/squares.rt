@@ -4,7 +4,7 @@ ghost use Rattle.triple_systems.specs.Squares.{HasOrder, IsIdempotent, IsLatin, 
 
 // A square: the entry in row x and column y is a product of x and y.
 #[derive(Clone, Copy)]
-pub enum Square {
+pub(crate) enum Square {
     // Half sums, of an odd order: a symmetric Latin square in which x and x give x.
     HalfSums,
     // A symmetric Latin square of an even order in which x and x give x for the lower half of the numbers alone.
@@ -83,7 +83,7 @@ pub fn idempotent(n: u16, x: u16, y: u16) -> u16
 }
 
 // The product of x and y in a square of order n.
-pub fn product(square: Square, n: u16, x: u16, y: u16) -> u16
+pub(crate) fn product(square: Square, n: u16, x: u16, y: u16) -> u16
     requires order { HasOrder square n }
     requires within { (x < n) × (y < n) }
     ensures value { result ≡ product_of square n x y }

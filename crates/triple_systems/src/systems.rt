@@ -9,8 +9,8 @@ ghost use Rattle.triple_systems.specs.Skolem.{skolem_blocks};
 
 use crate::squares::Square;
 use crate::triples::{
-    push_columns, push_double_columns, push_infinite_triples, push_levels, push_ordered_levels,
-    push_ordered_triples_above, push_six_points, push_triples_above,
+    Pairs, push_columns, push_double_columns, push_infinite_triples, push_levels, push_six_points,
+    push_triples_above,
 };
 use design_base::{Memory, POINTS_MAX};
 use incidence::Rows;
@@ -32,7 +32,7 @@ pub fn bose(alloc: Global, v: u16) -> Result<Rows, Memory>
     let n = v / 3;
     let mut rows = Rows::new(alloc);
     push_columns(&mut rows, n, n)?;
-    push_levels(&mut rows, Square::HalfSums, n)?;
+    push_levels(&mut rows, Pairs::Unordered, Square::HalfSums, n)?;
     let blocks = rows.canonical()?;
     Ok(blocks)
 }
@@ -54,7 +54,7 @@ pub fn skolem(alloc: Global, v: u16) -> Result<Rows, Memory>
     let mut rows = Rows::new(alloc);
     push_columns(&mut rows, n, n / 2)?;
     push_infinite_triples(&mut rows, n, n / 2, n / 2)?;
-    push_levels(&mut rows, Square::HalfIdempotent, n)?;
+    push_levels(&mut rows, Pairs::Unordered, Square::HalfIdempotent, n)?;
     let blocks = rows.canonical()?;
     Ok(blocks)
 }
@@ -78,7 +78,7 @@ pub fn double(alloc: Global, v: u16) -> Result<Rows, Memory>
         return Ok(blocks);
     }
     push_double_columns(&mut rows, v / 3, v % 3)?;
-    push_ordered_levels(&mut rows, Square::Idempotent, v / 3)?;
+    push_levels(&mut rows, Pairs::Ordered, Square::Idempotent, v / 3)?;
     let blocks = rows.canonical()?;
     Ok(blocks)
 }
@@ -95,7 +95,7 @@ pub fn middle(alloc: Global, v: u16) -> Result<Rows, Memory>
     ensures design { IfOk result (λ rows. IsBibd rows v 3 3) }
 {
     let mut rows = Rows::new(alloc);
-    push_triples_above(&mut rows, Square::HalfSums, v, 0, 0)?;
+    push_triples_above(&mut rows, Pairs::Unordered, Square::HalfSums, v, 0, 0)?;
     let blocks = rows.canonical()?;
     Ok(blocks)
 }
@@ -111,7 +111,7 @@ pub fn ordered(alloc: Global, v: u16) -> Result<Rows, Memory>
     ensures design { IfOk result (λ rows. IsBibd rows v 3 6) }
 {
     let mut rows = Rows::new(alloc);
-    push_ordered_triples_above(&mut rows, Square::Idempotent, v, 0, 0)?;
+    push_triples_above(&mut rows, Pairs::Ordered, Square::Idempotent, v, 0, 0)?;
     let blocks = rows.canonical()?;
     Ok(blocks)
 }

@@ -4,11 +4,20 @@ ghost use Rattle.design_base.specs.Arrays.{place};
 ghost use Rattle.incidence.specs.Packed.{size_of};
 ghost use Rattle.triple_systems.specs.Squares.{HasOrder, product_of};
 ghost use Rattle.triple_systems.specs.Double.{double_columns, six_point_blocks};
-ghost use Rattle.triple_systems.specs.Triples.{columns, levels, triple, ordered_levels, triples_above, ordered_triples_with, ordered_triples_above, triples_with, infinite_triples, infinite_triples_of};
+ghost use Rattle.triple_systems.specs.Triples.{columns, infinite_triples, infinite_triples_of, levels, partners, triple, triples_above, triples_with};
 
 use crate::squares::{Square, product};
 use design_base::{Memory, PACKED_MAX, POINTS_MAX};
 use incidence::Rows;
+
+// Which pairs of numbers triples stand above.
+#[derive(Clone, Copy)]
+pub(crate) enum Pairs {
+    // Each two numbers once, the smaller one first.
+    Unordered,
+    // Each two numbers in both orders.
+    Ordered,
+}
 
 // Point `x` of group `i`.
 #[tactic(auto, unfolding(design_base::specs::Arrays::place))]
@@ -21,7 +30,7 @@ fn point(n: u16, i: u16, x: u16) -> u16
 
 // Appends the columns of the numbers below `m`.
 #[tactic(auto, using(crate::proofs::Steps::steps))]
-pub fn push_columns(rows: &mut Rows, n: u16, m: u16) -> Result<(), Memory>
+pub(crate) fn push_columns(rows: &mut Rows, n: u16, m: u16) -> Result<(), Memory>
     requires points { n ≤ POINTS_MAX }
     requires few { m ≤ n }
     requires room { size_of rows.old + 4 * m < PACKED_MAX }
@@ -56,7 +65,17 @@ fn push_triple(
     rows.push_row(&[point(n, i, x), point(n, i, y), point(n, j, z)])
 }
 
-// Appends the triples above the pairs of `y` and each smaller number of group `i`, with the products in group `j`.
+// The numbers `x` beside `y` are those below this.
+fn partners_end(pairs: Pairs, n: u16, y: u16) -> u16
+    ensures { result ≡ partners pairs n y }
+{
+    match pairs {
+        Pairs::Unordered => y,
+        Pairs::Ordered => n,
+    }
+}
+
+// Appends the triples above the pairs of `y` and each other number of group `i` below `end`, with the products in group `j`.
 #[tactic(auto, using(crate::proofs::Steps::steps))]
 fn push_triples_with(
     rows: &mut Rows,
@@ -65,76 +84,17 @@ fn push_triples_with(
     i: u16,
     j: u16,
     y: u16,
+    end: u16,
 ) -> Result<(), Memory>
     requires order { HasOrder square n }
     requires points { n ≤ POINTS_MAX }
     requires groups { (i < 3) × (j < 3) }
-    requires within { y < n }
+    requires within { (y < n) × (end ≤ n) }
     requires room { size_of rows.old + 4 * n < PACKED_MAX }
-    ensures ok { OnOk result (rows.new ≡ rows.old ++ triples_with n (product_of square n) i j y y) }
-    ensures size { OnOk result (size_of rows.new ≡ size_of rows.old + 4 * y) }
-{
-    for x in 0..y {
-        push_triple(rows, square, n, i, j, x, y)?;
-    }
-    Ok(())
-}
-
-// Appends the triples above all pairs of group `i`.
-#[tactic(auto, using(crate::proofs::Steps::steps))]
-pub fn push_triples_above(
-    rows: &mut Rows,
-    square: Square,
-    n: u16,
-    i: u16,
-    j: u16,
-) -> Result<(), Memory>
-    requires order { HasOrder square n }
-    requires points { n ≤ POINTS_MAX }
-    requires groups { (i < 3) × (j < 3) }
-    requires room { size_of rows.old + 4 * (n * n) < PACKED_MAX }
-    ensures ok { OnOk result (rows.new ≡ rows.old ++ triples_above n (product_of square n) i j n) }
-    ensures size { OnOk result (size_of rows.new ≤ size_of rows.old + 4 * (n * n)) }
-{
-    for y in 0..n {
-        push_triples_with(rows, square, n, i, j, y)?;
-    }
-    Ok(())
-}
-
-// Appends the triples above the pairs of each of three groups, with the products in the next group.
-#[tactic(auto, using(crate::proofs::Steps::steps))]
-pub fn push_levels(rows: &mut Rows, square: Square, n: u16) -> Result<(), Memory>
-    requires order { HasOrder square n }
-    requires points { n ≤ POINTS_MAX }
-    requires room { size_of rows.old + 12 * (n * n) < PACKED_MAX }
-    ensures { OnOk result (rows.new ≡ rows.old ++ levels n (product_of square n) 3) }
-{
-    for i in 0..3 {
-        push_triples_above(rows, square, n, i, (i + 1) % 3)?;
-    }
-    Ok(())
-}
-
-// Appends the triples above the ordered pairs of each other number of group `i` and `y`, with the products in group `j`.
-#[tactic(auto, using(crate::proofs::Steps::steps))]
-fn push_ordered_triples_with(
-    rows: &mut Rows,
-    square: Square,
-    n: u16,
-    i: u16,
-    j: u16,
-    y: u16,
-) -> Result<(), Memory>
-    requires order { HasOrder square n }
-    requires points { n ≤ POINTS_MAX }
-    requires groups { (i < 3) × (j < 3) }
-    requires within { y < n }
-    requires room { size_of rows.old + 4 * n < PACKED_MAX }
-    ensures ok { OnOk result (rows.new ≡ rows.old ++ ordered_triples_with n (product_of square n) i j y n) }
+    ensures ok { OnOk result (rows.new ≡ rows.old ++ triples_with n (product_of square n) i j y end) }
     ensures size { OnOk result (size_of rows.new ≤ size_of rows.old + 4 * n) }
 {
-    for x in 0..n {
+    for x in 0..end {
         if x != y {
             push_triple(rows, square, n, i, j, x, y)?;
         }
@@ -142,10 +102,11 @@ fn push_ordered_triples_with(
     Ok(())
 }
 
-// Appends the triples above all ordered pairs of group `i`.
+// Appends the triples above the pairs of group `i`, with the products in group `j`.
 #[tactic(auto, using(crate::proofs::Steps::steps))]
-pub fn push_ordered_triples_above(
+pub(crate) fn push_triples_above(
     rows: &mut Rows,
+    pairs: Pairs,
     square: Square,
     n: u16,
     i: u16,
@@ -155,25 +116,31 @@ pub fn push_ordered_triples_above(
     requires points { n ≤ POINTS_MAX }
     requires groups { (i < 3) × (j < 3) }
     requires room { size_of rows.old + 4 * (n * n) < PACKED_MAX }
-    ensures ok { OnOk result (rows.new ≡ rows.old ++ ordered_triples_above n (product_of square n) i j n) }
+    ensures ok { OnOk result (rows.new ≡ rows.old ++ triples_above pairs n (product_of square n) i j n) }
     ensures size { OnOk result (size_of rows.new ≤ size_of rows.old + 4 * (n * n)) }
 {
     for y in 0..n {
-        push_ordered_triples_with(rows, square, n, i, j, y)?;
+        let end = partners_end(pairs, n, y);
+        push_triples_with(rows, square, n, i, j, y, end)?;
     }
     Ok(())
 }
 
-// Appends the triples above the ordered pairs of each of three groups, with the products in the next group.
+// Appends the triples above the pairs of each of three groups, with the products in the next group.
 #[tactic(auto, using(crate::proofs::Steps::steps))]
-pub fn push_ordered_levels(rows: &mut Rows, square: Square, n: u16) -> Result<(), Memory>
+pub(crate) fn push_levels(
+    rows: &mut Rows,
+    pairs: Pairs,
+    square: Square,
+    n: u16,
+) -> Result<(), Memory>
     requires order { HasOrder square n }
     requires points { n ≤ POINTS_MAX }
     requires room { size_of rows.old + 12 * (n * n) < PACKED_MAX }
-    ensures { OnOk result (rows.new ≡ rows.old ++ ordered_levels n (product_of square n) 3) }
+    ensures { OnOk result (rows.new ≡ rows.old ++ levels pairs n (product_of square n) 3) }
 {
     for i in 0..3 {
-        push_ordered_triples_above(rows, square, n, i, (i + 1) % 3)?;
+        push_triples_above(rows, pairs, square, n, i, (i + 1) % 3)?;
     }
     Ok(())
 }
@@ -196,7 +163,7 @@ fn push_infinite_triples_of(rows: &mut Rows, n: u16, s: u16, i: u16, m: u16) -> 
 
 // Appends the triples with the infinite point and each of three groups.
 #[tactic(auto, using(crate::proofs::Steps::steps))]
-pub fn push_infinite_triples(rows: &mut Rows, n: u16, s: u16, m: u16) -> Result<(), Memory>
+pub(crate) fn push_infinite_triples(rows: &mut Rows, n: u16, s: u16, m: u16) -> Result<(), Memory>
     requires points { n ≤ POINTS_MAX }
     requires few { m + s ≤ n }
     requires room { size_of rows.old + 12 * m < PACKED_MAX }
@@ -211,7 +178,7 @@ pub fn push_infinite_triples(rows: &mut Rows, n: u16, s: u16, m: u16) -> Result<
 
 // Appends the columns of three groups, each twice where `rest` is 0; else the columns and the triples with the infinite point.
 #[tactic(auto, using(crate::proofs::Steps::steps), unfolding(crate::specs::Double::double_columns))]
-pub fn push_double_columns(rows: &mut Rows, n: u16, rest: u16) -> Result<(), Memory>
+pub(crate) fn push_double_columns(rows: &mut Rows, n: u16, rest: u16) -> Result<(), Memory>
     requires points { n ≤ POINTS_MAX }
     requires room { size_of rows.old + 16 * n < PACKED_MAX }
     ensures ok { OnOk result (rows.new ≡ rows.old ++ double_columns n rest) }
@@ -226,7 +193,7 @@ pub fn push_double_columns(rows: &mut Rows, n: u16, rest: u16) -> Result<(), Mem
 
 // Appends the ten blocks on six points.
 #[tactic(auto, using(crate::proofs::Steps::steps))]
-pub fn push_six_points(rows: &mut Rows) -> Result<(), Memory>
+pub(crate) fn push_six_points(rows: &mut Rows) -> Result<(), Memory>
     requires { size_of rows.old + 40 < PACKED_MAX }
     ensures { OnOk result (rows.new ≡ rows.old ++ six_point_blocks 5) }
 {
