@@ -40,6 +40,27 @@ fn reads_within_the_limit(rt: HostRuntime) -> Result<(), Fail> {
 }
 
 #[test]
+fn ends_of_readings_are_printed(rt: HostRuntime) -> Result<(), Fail> {
+    let alloc = rt.alloc();
+    for (end, want) in [
+        (ReadEnd::Failed, "read fault"),
+        (ReadEnd::TooLong { line: 12 }, "too long at line 12"),
+        (ReadEnd::Memory, "no memory"),
+    ] {
+        let text = format!(in alloc; "{end}")?;
+        assert_eq!(rt; text.as_str(), want);
+    }
+    for (end, want) in [
+        (LineEnd::Failed, "read fault"),
+        (LineEnd::TooLong { line: 7 }, "too long at line 7"),
+    ] {
+        let text = format!(in alloc; "{end}")?;
+        assert_eq!(rt; text.as_str(), want);
+    }
+    Ok(())
+}
+
+#[test]
 fn failed_writes_keep_no_byte(rt: HostRuntime) -> Result<(), Fail> {
     let alloc = rt.alloc();
     for (failing, room, want) in [(0, 6, "abcdef"), (2, 6, "abef"), (0, 3, "abe")] {
