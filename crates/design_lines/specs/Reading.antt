@@ -24,6 +24,14 @@ Reader A = ℕ → List (List ℕ) → Result (Reading A) Reason
 abbrev pub gives : {A : Type 0} → A → Reader A
 gives value at words = Ok (record { value = value; at = at; words = words })
 
+-- what is left behind the next word, where there is one
+unfoldable pub behind_word : Rest → Rest
+behind_word rest = of rest.at rest.words
+  where
+    of : ℕ → List (List ℕ) → Rest
+    of at [] = record { at = at; words = [] }
+    of at (word ∷ words) = record { at = at + 1; words = words }
+
 -- what `next` reads behind the value
 abbrev pub behind : {A B : Type 0} → (A → Reader B) → Result (Reading A) Reason → Result (Reading B) Reason
 behind next (Err reason) = Err reason

@@ -48,7 +48,7 @@ impl<const ROOM: usize> InPlace<ROOM> {
         }
     }
 
-    /// Gives up the bytes.
+    /// Drops all bytes, so that the next line is put together in their place.
     pub fn clear(&mut self)
         ensures { self.new ≡ [] }
     {

@@ -2,7 +2,7 @@
 ghost use Rattle.std.specs.Prelude.{◌≡◌, ◌↔◌, ◌+◌, ◌^◌, ◌<◌, ◌≤◌, [], ◌∷◌, IfNone, IfOk, IfSome, IsTrue, MatchOption, drop, false, length, take, take_while};
 ghost use Rattle.std.specs.List.{position_or_len};
 ghost use Rattle.design_base.specs.Limits.{HasFewDigits};
-ghost use Rattle.design_lines.specs.Reading.{Reads, at_end, is_next, no_fixed_word, number, pair, triple};
+ghost use Rattle.design_lines.specs.Reading.{Reads, at_end, behind_word, is_next, no_fixed_word, number, pair, triple};
 ghost use Rattle.design_lines.specs.Source.{words_in};
 ghost use Rattle.design_lines.specs.Words.{is_space, spaced_words, texts, words_of, is_blank as is_blank_byte, is_in_word};
 
@@ -225,18 +225,20 @@ impl<'a> Words<'a> {
         }
     }
 
-    /// Reads a number of one to six digits.
-    #[tactic(auto, unfolding(crate::specs::Reading::number))]
+    /// Reads a number of one to six digits. A word that is no such number is taken, and no other: `Spelling` names it, and `Missing` the place where
+    /// no word is left.
+    #[tactic(auto, unfolding(crate::specs::Reading::number, crate::specs::Reading::behind_word))]
     pub fn number(&mut self) -> Result<u64, Reason>
         ensures reads { Reads number self.old self.new result }
         ensures small { IfOk result HasFewDigits }
+        ensures left { self.new ≡ behind_word self.old }
     {
         let at = self.at;
         let word = self.next_word().ok_or(Reason::Missing { at })?;
         number_of(word).ok_or(Reason::Spelling { at })
     }
 
-    /// Reads two numbers.
+    /// Reads two numbers of one to six digits. Words are taken up to the first that is none, which is refused as by `number`.
     #[tactic(auto, unfolding(crate::specs::Reading::pair))]
     pub fn pair(&mut self) -> Result<(u64, u64), Reason>
         ensures reads { Reads pair self.old self.new result }
@@ -247,7 +249,7 @@ impl<'a> Words<'a> {
         Ok((first, second))
     }
 
-    /// Reads three numbers.
+    /// Reads three numbers of one to six digits. Words are taken up to the first that is none, which is refused as by `number`.
     #[tactic(auto, unfolding(crate::specs::Reading::triple))]
     pub fn triple(&mut self) -> Result<(u64, u64, u64), Reason>
         ensures { Reads triple self.old self.new result }
