@@ -3,6 +3,7 @@
 #![tactic(auto)]
 
 mod blocks;
+mod checker;
 mod checks;
 mod counts;
 mod differences;
@@ -11,7 +12,8 @@ mod pairs;
 mod scratch;
 mod transversal;
 
-pub use checks::{check, check_bibd, check_df, check_gdd, check_pbd, check_td};
+pub use checker::Checker;
+pub use checks::{check_bibd, check_df, check_gdd, check_pbd, check_td};
 pub use finding::Finding;
 pub use scratch::Scratch;
 

@@ -24,7 +24,8 @@ pub struct Scratch {
 }
 
 impl Scratch {
-    /// Takes the memory for the checks. They take no more.
+    /// Room for the counts of designs of up to `TD_K_MAX` * `TD_N_MAX` points, `TD_N_MAX` of which are counted at a time, and for the
+    /// bits of transversal designs. The checks take no more. The answer is `Memory` only where this cannot be had.
     pub fn new(alloc: Global) -> Result<Scratch, Memory> {
         Ok(Scratch {
             counts: Vec::with_capacity(alloc, COUNTS)?,

@@ -2,9 +2,8 @@ ghost use Rattle.std.specs.Prelude.{◌≡◌, ◌*◌, ◌^◌, ◌<◌, ◌≤
 ghost use Rattle.design_base.specs.declared.limits.TheConstants.{PACKED_MAX};
 ghost use Rattle.incidence.specs.Packed.{size_of};
 
-use crate::{Finding, Scratch, check, check_bibd, check_gdd, check_pbd, check_td};
+use crate::{Checker, Finding, Scratch, check_bibd, check_gdd, check_pbd, check_td};
 use design_base::{Group, Memory, Query, in_bounds};
-use field_tables::Fields;
 use incidence::Rows;
 use std::alloc::Global;
 use std::test::Fail;
@@ -195,9 +194,35 @@ fn blocks_of_two_sizes(rt: HostRuntime) -> Result<(), Fail> {
 }
 
 #[test]
+fn one_checker_serves_all_kinds(rt: HostRuntime) -> Result<(), Fail> {
+    let triangle: [&[u16]; 3] = [&[0, 1], &[0, 2], &[1, 2]];
+    let rows = packed(rt.alloc(), &triangle)?;
+    let mut checker = Checker::new(rt.alloc());
+    for (q, finding) in [
+        (Query::Bibd { v: 3, k: 2, l: 1 }, Finding::Valid),
+        (Query::Td { k: 2, n: 1 }, Finding::BadBlock { index: 2 }),
+        (Query::Gdd { k: 2, g: 1, u: 3 }, Finding::Valid),
+        (Query::Pbd { v: 3, s: 2 }, Finding::Valid),
+        (
+            Query::Df {
+                group: Group::Field,
+                v: 3,
+                k: 2,
+                l: 3,
+            },
+            Finding::Valid,
+        ),
+        (Query::Pbd { v: 2, s: 2 }, Finding::BadBlock { index: 2 }),
+    ] {
+        assert!(rt; in_bounds(&q));
+        assert_eq!(rt; checker.check(&q, &rows)?, finding);
+    }
+    Ok(())
+}
+
+#[test]
 fn base_blocks(rt: HostRuntime) -> Result<(), Fail> {
-    let fields = Fields::open(rt.alloc())?;
-    let mut scratch = Scratch::new(rt.alloc())?;
+    let mut checker = Checker::new(rt.alloc());
     let twice = Finding::BadPair {
         x: 0,
         y: 1,
@@ -229,11 +254,7 @@ fn base_blocks(rt: HostRuntime) -> Result<(), Fail> {
         rows.push_row(block)?;
         let q = Query::Df { group, v, k, l };
         assert!(rt; in_bounds(&q));
-        assert_eq!(rt;
-            check(&q, &rows, &fields, &mut scratch),
-            finding,
-            "of {block:?}"
-        );
+        assert_eq!(rt; checker.check(&q, &rows)?, finding, "of {block:?}");
     }
     Ok(())
 }
