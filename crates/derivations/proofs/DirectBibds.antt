@@ -1,6 +1,6 @@
 -- The rules of block designs without premises: a candidate has what its construction needs, and the construction gives the design. A new rule
--- adds a lemma, and a case to `direct_meets`.
-use Rattle.std.proofs.Common.{◌≡◌, ◌≢◌, ℕ, ◌+◌, ◌-◌, ◌/◌, ◌%◌, ◌^◌, ◌≤◌, ◌==◌, ◌&&◌, not, true, List, [], arith, subst, sym}
+-- adds a lemma, and a case each to `direct_can_build` and `direct_meets`.
+use Rattle.std.proofs.Common.{◌≡◌, ◌≢◌, ℕ, ◌+◌, ◌-◌, ◌/◌, ◌%◌, ◌^◌, ◌≤◌, ◌==◌, ◌&&◌, not, true, List, [], ◌∷◌, arith, refl, subst, sym}
 use Rattle.std.specs.Prelude.{nat_lt}
 use Rattle.counting.proofs.Booleans.{both, eqb-true, leb-true}
 use Rattle.std.proofs.lemmas.Bool.Decides.{nat_tests}
@@ -11,6 +11,7 @@ use Rattle.design_base.specs.Canonical.{canonical}
 use Rattle.design_base.specs.Fields.{has_field}
 use Rattle.design_base.specs.Geometries.{point_count}
 use Rattle.design_base.specs.Limits.{in_bounds, within}
+use Rattle.design_base.specs.declared.query.Query.{Query}
 use Rattle.design_base.specs.declared.query.Query.TheVariants.{Bibd}
 use Rattle.design_base.specs.declared.rule.Rule.{Rule}
 use Rattle.design_base.specs.declared.rule.Rule.TheVariants.{Whole, Pairs, Omit, Bose, Skolem, Double, Middle, Ordered, Affine, Projective, Unital, Arc}
@@ -35,97 +36,97 @@ use Rattle.gdd_pbd.proofs.Complements.{omit_is_bibd}
 use Rattle.rule_terms.specs.BibdTerms.{bibd_terms}
 use Rattle.rule_terms.specs.Terms.{allows, premises_at}
 use Rattle.rule_terms.proofs.Bounds.{bibd_bounds}
-use Rattle.derivations.specs.BibdBlocks.{CanBuildBibd}
+use Rattle.derivations.specs.AllMeet.{AllMeet}
 use Rattle.derivations.specs.DirectBibds.{AreTriples, direct_blocks, CanBuildDirect}
-use Rattle.derivations.proofs.Sizes.{sized, CanOf}
-use Rattle.derivations.proofs.Taken.{taken}
+use Rattle.derivations.proofs.Sizes.{sized}
+
+-- where there are no block lists, no questions are asked
+none_asked : (ps : List Query) → AllMeet ps [] → ps ≡ []
+none_asked [] meet = refl
+none_asked (p ∷ ps) meet = absurd meet
 
 module _ (v k l : ℕ) (bounds : in_bounds (Bibd v k l) ≡ true) where
+  -- a candidate of the rule has what its construction needs
   abbrev Can : Rule → Type 0
-  Can = CanOf v k l
+  Can r = (a b c d : ℕ) → allows (bibd_terms v k l r) (a ∷ b ∷ c ∷ d ∷ []) ≡ true → CanBuildDirect v k l r a b
 
-  pub whole : Can Whole
-  unfolding bibd_terms allows premises_at CanBuildBibd CanBuildDirect
-  whole a b c d I e meet =
+  whole : Can Whole
+  unfolding bibd_terms allows CanBuildDirect
+  whole a b c d e =
       let in_range = bibd_bounds v k l bounds in
       let size : v ≡ k = let t = (both (k == v) _ e).0 in grind (arith, nat_tests) in
-      taken [] (CanBuildBibd v k l Whole a b c d) I meet (record { points = in_range.points; covers = in_range.cover }, size)
+      (record { points = in_range.points; covers = in_range.cover }, size)
 
-  pub pairs : Can Pairs
-  unfolding bibd_terms allows premises_at CanBuildBibd CanBuildDirect
-  pairs a b c d I e meet =
+  pairs : Can Pairs
+  unfolding bibd_terms allows CanBuildDirect
+  pairs a b c d e =
       let in_range = bibd_bounds v k l bounds in
       let size : 2 ≡ k = let t = (both (k == 2) _ e).0 in grind (arith, nat_tests) in
-      taken [] (CanBuildBibd v k l Pairs a b c d) I meet (record { points = in_range.points; covers = in_range.cover }, size)
+      (record { points = in_range.points; covers = in_range.cover }, size)
 
-  pub omit : Can Omit
-  unfolding bibd_terms allows premises_at CanBuildBibd CanBuildDirect
-  omit a b c d I e meet =
+  omit : Can Omit
+  unfolding bibd_terms allows CanBuildDirect
+  omit a b c d e =
       let in_range = bibd_bounds v k l bounds in
       let t = (both (k == v - 1 && 3 <= v && divides (v - 2) l) _ e).0 in
       let size : v - 1 ≡ k = grind (arith, nat_tests) in
       let least : 3 ≤ v = grind (arith, nat_tests) in
       let times : l % (v - 2) ≡ 0 = grind (arith, nat_tests) in
-      taken [] (CanBuildBibd v k l Omit a b c d) I meet (record { least = least; points = in_range.points; covers = in_range.cover; times = times }, size)
+      (record { least = least; points = in_range.points; covers = in_range.cover; times = times }, size)
 
-  pub bose : Can Bose
-  unfolding bibd_terms allows premises_at CanBuildBibd CanBuildDirect
-  bose a b c d I e meet =
+  bose : Can Bose
+  unfolding bibd_terms allows CanBuildDirect
+  bose a b c d e =
       let in_range = bibd_bounds v k l bounds in
       let t = (both (k == 3 && l == 1 && v % 6 == 3) _ e).0 in
       let shape : v % 6 ≡ 3 = grind (arith, nat_tests) in
       let three : 3 ≡ k = grind (arith, nat_tests) in
       let once : 1 ≡ l = grind (arith, nat_tests) in
-      taken [] (CanBuildBibd v k l Bose a b c d) I meet
-      (record { least = omega (arith, in_range.block); points = in_range.points; shape = shape; three = three; cover = once })
+      record { least = omega (arith, in_range.block); points = in_range.points; shape = shape; three = three; cover = once }
 
-  pub skolem : Can Skolem
-  unfolding bibd_terms allows premises_at CanBuildBibd CanBuildDirect
-  skolem a b c d I e meet =
+  skolem : Can Skolem
+  unfolding bibd_terms allows CanBuildDirect
+  skolem a b c d e =
       let in_range = bibd_bounds v k l bounds in
       let t = (both (k == 3 && l == 1 && v % 6 == 1 && 7 <= v) _ e).0 in
       let shape : v % 6 ≡ 1 = grind (arith, nat_tests) in
       let three : 3 ≡ k = grind (arith, nat_tests) in
       let once : 1 ≡ l = grind (arith, nat_tests) in
-      taken [] (CanBuildBibd v k l Skolem a b c d) I meet
-      (record { least = omega (arith, in_range.block); points = in_range.points; shape = shape; three = three; cover = once })
+      record { least = omega (arith, in_range.block); points = in_range.points; shape = shape; three = three; cover = once }
 
-  pub double : Can Double
-  unfolding bibd_terms allows premises_at CanBuildBibd CanBuildDirect
-  double a b c d I e meet =
+  double : Can Double
+  unfolding bibd_terms allows CanBuildDirect
+  double a b c d e =
       let in_range = bibd_bounds v k l bounds in
       let t = (both (k == 3 && l == 2 && v % 3 <= 1 && not (v == 7)) _ e).0 in
       let residue : v % 3 ≢ 2 = λ f. grind (arith, nat_tests) in
       let seven : v ≢ 7 = λ f. grind (arith, nat_tests) in
       let three : 3 ≡ k = grind (arith, nat_tests) in
       let twice : 2 ≡ l = grind (arith, nat_tests) in
-      taken [] (CanBuildBibd v k l Double a b c d) I meet
-      (record { least = omega (arith, in_range.block); points = in_range.points; shape = (residue, seven); three = three; cover = twice })
+      record { least = omega (arith, in_range.block); points = in_range.points; shape = (residue, seven); three = three; cover = twice }
 
-  pub middle : Can Middle
-  unfolding bibd_terms allows premises_at CanBuildBibd CanBuildDirect
-  middle a b c d I e meet =
+  middle : Can Middle
+  unfolding bibd_terms allows CanBuildDirect
+  middle a b c d e =
       let in_range = bibd_bounds v k l bounds in
       let t = (both (k == 3 && l == 3 && v % 2 == 1) _ e).0 in
       let shape : v % 2 ≡ 1 = grind (arith, nat_tests) in
       let three : 3 ≡ k = grind (arith, nat_tests) in
       let times : 3 ≡ l = grind (arith, nat_tests) in
-      taken [] (CanBuildBibd v k l Middle a b c d) I meet
-      (record { least = omega (arith, in_range.block); points = in_range.points; shape = shape; three = three; cover = times })
+      record { least = omega (arith, in_range.block); points = in_range.points; shape = shape; three = three; cover = times }
 
-  pub ordered : Can Ordered
-  unfolding bibd_terms allows premises_at CanBuildBibd CanBuildDirect
-  ordered a b c d I e meet =
+  ordered : Can Ordered
+  unfolding bibd_terms allows CanBuildDirect
+  ordered a b c d e =
       let in_range = bibd_bounds v k l bounds in
       let t = (both (k == 3 && l == 6) _ e).0 in
       let three : 3 ≡ k = grind (arith, nat_tests) in
       let times : 6 ≡ l = grind (arith, nat_tests) in
-      taken [] (CanBuildBibd v k l Ordered a b c d) I meet
-      (record { least = omega (arith, in_range.block); points = in_range.points; shape = tt; three = three; cover = times })
+      record { least = omega (arith, in_range.block); points = in_range.points; shape = tt; three = three; cover = times }
 
-  pub affine : Can Affine
-  unfolding bibd_terms allows premises_at CanBuildBibd CanBuildDirect
-  affine q m c d I e meet =
+  affine : Can Affine
+  unfolding bibd_terms allows CanBuildDirect
+  affine q m c d e =
       let in_range = bibd_bounds v k l bounds in
       let t = (both (k == q && l == 1 && has_field q && 2 <= m && v == q ^ m) _ (both (within 2 (v / q) m) _ (both (within k k q) _ e).1).1).0 in
       let all = both (k == q && l == 1 && has_field q && 2 <= m) (v == q ^ m) t in
@@ -133,15 +134,14 @@ module _ (v k l : ℕ) (bounds : in_bounds (Bibd v k l) ≡ true) where
       let field = both (k == q && l == 1) (has_field q) plane.0 in
       let sizes = both (k == q) (l == 1) field.0 in
       let points : q ^ m ≡ v = sym (eqb-true v (q ^ m) all.1) in
-      let dimension : 2 ≤ m = leb-true 2 m plane.1 in
-      taken [] (CanBuildBibd v k l Affine q m c d) I meet (
+      let dimension : 2 ≤ m = leb-true 2 m plane.1 in (
         record { listed = field.1; dimension = omega arith; few = omega (arith, in_range.points) },
         record { all = points; block = sym (eqb-true k q sizes.0); once = sym (eqb-true l 1 sizes.1) },
       )
 
-  pub projective : Can Projective
-  unfolding bibd_terms allows premises_at CanBuildBibd CanBuildDirect
-  projective q m c d I e meet =
+  projective : Can Projective
+  unfolding bibd_terms allows CanBuildDirect
+  projective q m c d e =
       let in_range = bibd_bounds v k l bounds in
       let t = (both (k == q + 1 && l == 1 && has_field q && 2 <= m && v == point_count q m) _ (both (within 2 (v / q) m) _ (both (within (k - 1) (k - 1) q) _ e).1).1).0 in
       let all = both (k == q + 1 && l == 1 && has_field q && 2 <= m) (v == point_count q m) t in
@@ -149,15 +149,14 @@ module _ (v k l : ℕ) (bounds : in_bounds (Bibd v k l) ≡ true) where
       let field = both (k == q + 1 && l == 1) (has_field q) plane.0 in
       let sizes = both (k == q + 1) (l == 1) field.0 in
       let points : point_count q m ≡ v = sym (eqb-true v (point_count q m) all.1) in
-      let dimension : 2 ≤ m = leb-true 2 m plane.1 in
-      taken [] (CanBuildBibd v k l Projective q m c d) I meet (
+      let dimension : 2 ≤ m = leb-true 2 m plane.1 in (
         record { listed = field.1; dimension = omega arith; few = omega (arith, in_range.points) },
         record { all = points; block = sym (eqb-true k (q + 1) sizes.0); once = sym (eqb-true l 1 sizes.1) },
       )
 
-  pub unital : Can Unital
-  unfolding bibd_terms allows premises_at CanBuildBibd CanBuildDirect
-  unital q b c d I e meet =
+  unital : Can Unital
+  unfolding bibd_terms allows CanBuildDirect
+  unital q b c d e =
       let in_range = bibd_bounds v k l bounds in
       let tested = (both (k == q + 1 && l == 1 && v == q ^ 3 + 1 && 2 <= q && has_field (q ^ 2) && passes_check (Bibd v k l) (unital_blocks q)) _ (both (within (k - 1) (k - 1) q) _ e).1).0 in
       let listed = (both (k == q + 1 && l == 1 && v == q ^ 3 + 1 && 2 <= q && has_field (q ^ 2)) (passes_check (Bibd v k l) (unital_blocks q)) tested).0 in
@@ -165,15 +164,14 @@ module _ (v k l : ℕ) (bounds : in_bounds (Bibd v k l) ≡ true) where
       let t = both (k == q + 1 && l == 1 && v == q ^ 3 + 1) (2 <= q) order.0 in
       let all = both (k == q + 1 && l == 1) (v == q ^ 3 + 1) t.0 in
       let sizes = both (k == q + 1) (l == 1) all.0 in
-      let points : q ^ 3 + 1 ≡ v = sym (eqb-true v (q ^ 3 + 1) all.1) in
-      taken [] (CanBuildBibd v k l Unital q b c d) I meet (
+      let points : q ^ 3 + 1 ≡ v = sym (eqb-true v (q ^ 3 + 1) all.1) in (
         record { order = leb-true 2 q t.1; listed = order.1; points = omega (arith, points, in_range.points) },
         record { all = points; block = sym (eqb-true k (q + 1) sizes.0); once = sym (eqb-true l 1 sizes.1) },
       )
 
-  pub arc : Can Arc
-  unfolding bibd_terms allows premises_at CanBuildBibd CanBuildDirect
-  arc r s c d I e meet =
+  arc : Can Arc
+  unfolding bibd_terms allows CanBuildDirect
+  arc r s c d e =
       let in_range = bibd_bounds v k l bounds in
       let tested = (both (k == 2 ^ r && l == 1 && v == arc_size r s && 1 <= r && nat_lt r s && s <= 7 && has_field (2 ^ s) && passes_check (Bibd v k l) (arc_blocks r s)) _
       (both (within (r + 1) 7 s) _ (both (within 1 6 r) _ e).1).1).0 in
@@ -183,8 +181,7 @@ module _ (v k l : ℕ) (bounds : in_bounds (Bibd v k l) ≡ true) where
       let some = both (k == 2 ^ r && l == 1 && v == arc_size r s) (1 <= r) smaller.0 in
       let all = both (k == 2 ^ r && l == 1) (v == arc_size r s) some.0 in
       let sizes = both (k == 2 ^ r) (l == 1) all.0 in
-      let points : arc_size r s ≡ v = sym (eqb-true v (arc_size r s) all.1) in
-      taken [] (CanBuildBibd v k l Arc r s c d) I meet (
+      let points : arc_size r s ≡ v = sym (eqb-true v (arc_size r s) all.1) in (
         record {
           two_points = leb-true 1 r some.1;
           smaller = grind (arith, nat_tests);
@@ -193,6 +190,24 @@ module _ (v k l : ℕ) (bounds : in_bounds (Bibd v k l) ≡ true) where
         },
         record { all = points; block = sym (eqb-true k (2 ^ r) sizes.0); once = sym (eqb-true l 1 sizes.1) },
       )
+
+  -- the others ask for premises, or serve no block designs
+  pub direct_can_build : (r : Rule) (a b c d : ℕ) → allows (bibd_terms v k l r) (a ∷ b ∷ c ∷ d ∷ []) ≡ true → AllMeet (premises_at (bibd_terms v k l r) (a ∷ b ∷ c ∷ d ∷ [])) []
+      → CanBuildDirect v k l r a b
+  unfolding bibd_terms allows premises_at
+  direct_can_build Whole a b c d e meet = whole a b c d e
+  direct_can_build Pairs a b c d e meet = pairs a b c d e
+  direct_can_build Omit a b c d e meet = omit a b c d e
+  direct_can_build Bose a b c d e meet = bose a b c d e
+  direct_can_build Skolem a b c d e meet = skolem a b c d e
+  direct_can_build Double a b c d e meet = double a b c d e
+  direct_can_build Middle a b c d e meet = middle a b c d e
+  direct_can_build Ordered a b c d e meet = ordered a b c d e
+  direct_can_build Affine a b c d e meet = affine a b c d e
+  direct_can_build Projective a b c d e meet = projective a b c d e
+  direct_can_build Unital a b c d e meet = unital a b c d e
+  direct_can_build Arc a b c d e meet = arc a b c d e
+  direct_can_build r a b c d e meet = cc (none_asked (premises_at (bibd_terms v k l r) (a ∷ b ∷ c ∷ d ∷ [])) meet)
 
 -- triples under other words
 triples : (B : List (List ℕ)) (v k l times : ℕ) (Shape : Type 0) → AreTriples v k l times Shape → IsBibd B v 3 times → IsBibd B v k l

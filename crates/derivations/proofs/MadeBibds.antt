@@ -1,5 +1,5 @@
 -- The rules of block designs with premises: a candidate has what its construction needs, and the construction gives the design. A new rule adds
--- a lemma, and a case to `made_meets`.
+-- a lemma, and a case each to `made_can_build` and `made_meets`.
 use Rattle.std.proofs.Common.{◌≡◌, ℕ, ◌+◌, ◌-◌, ◌*◌, ◌/◌, ◌%◌, ◌<◌, ◌≤◌, ◌==◌, ◌&&◌, true, List, [], ◌∷◌, arith, refl, subst}
 use Rattle.std.specs.Prelude.{nat_lt}
 use Rattle.std.proofs.Math.Nat.{div-add-mod', mul-le-mul_left}
@@ -31,37 +31,39 @@ use Rattle.gdd_pbd.specs.Conditions.{CanPbdToBibd}
 use Rattle.rule_terms.specs.BibdTerms.{bibd_terms}
 use Rattle.rule_terms.specs.Terms.{allows, premises_at}
 use Rattle.rule_terms.proofs.Bounds.{bibd_bounds}
-use Rattle.derivations.specs.BibdBlocks.{CanBuildBibd}
+use Rattle.derivations.specs.AllMeet.{AllMeet}
 use Rattle.derivations.specs.MadeBibds.{made_blocks, CanBuildMade}
-use Rattle.derivations.proofs.Sizes.{sized, CanOf}
+use Rattle.derivations.proofs.Sizes.{sized}
 use Rattle.derivations.proofs.Taken.{taken}
 
 module _ (v k l : ℕ) (bounds : in_bounds (Bibd v k l) ≡ true) where
+  -- a candidate of the rule has, with any designs that meet its premises, what its construction needs
   abbrev Can : Rule → Type 0
-  Can = CanOf v k l
+  Can r = (a b c d : ℕ) (I : List (List (List ℕ))) → allows (bibd_terms v k l r) (a ∷ b ∷ c ∷ d ∷ []) ≡ true → AllMeet (premises_at (bibd_terms v k l r) (a ∷ b ∷ c ∷ d ∷ [])) I
+      → CanBuildMade v k l r a b I
 
   develops : (group : Group) (F : List (List ℕ)) → Meets (Df group v k l) F → CanDevelop group v k l F
   develops group F family =
       let in_range = bibd_bounds v k l bounds in
       record { two_points = in_range.least; block = in_range.block; points = in_range.points; differences = in_range.cover; family = family }
 
-  pub developz : Can Developz
-  unfolding bibd_terms allows premises_at CanBuildBibd CanBuildMade
-  developz a b c d I e meet = taken (Df Cyclic v k l ∷ []) (CanBuildBibd v k l Developz a b c d) I meet (develops Cyclic)
+  developz : Can Developz
+  unfolding bibd_terms allows premises_at CanBuildMade
+  developz a b c d I e meet = taken (Df Cyclic v k l ∷ []) (CanBuildMade v k l Developz a b) I meet (develops Cyclic)
 
-  pub developf : Can Developf
-  unfolding bibd_terms allows premises_at CanBuildBibd CanBuildMade
-  developf a b c d I e meet = taken (Df Field v k l ∷ []) (CanBuildBibd v k l Developf a b c d) I meet (develops Field)
+  developf : Can Developf
+  unfolding bibd_terms allows premises_at CanBuildMade
+  developf a b c d I e meet = taken (Df Field v k l ∷ []) (CanBuildMade v k l Developf a b) I meet (develops Field)
 
-  pub fill : Can Fill
-  unfolding bibd_terms allows premises_at CanBuildBibd CanBuildMade
+  fill : Can Fill
+  unfolding bibd_terms allows premises_at CanBuildMade
   fill g u c d I e meet =
       let in_range = bibd_bounds v k l bounds in
       let t = (both (l == 1 && g * u == v && k <= g && k <= u) _ (both (within (v / g) (v / g) u) _ (both (within k (v / k) g) _ e).1).1).0 in
       let points : g * u ≡ v = grind (arith, nat_tests) in
       let once : 1 ≡ l = grind (arith, nat_tests) in
       let groups : (k ≤ g) × (k ≤ u) = grind (arith, nat_tests) in
-      taken (Gdd k g u ∷ Bibd g k 1 ∷ []) (CanBuildBibd v k l Fill g u c d) I meet (λ G gdd D design. (
+      taken (Gdd k g u ∷ Bibd g k 1 ∷ []) (CanBuildMade v k l Fill g u) I meet (λ G gdd D design. (
         record {
           two = in_range.least;
           some = omega (arith, in_range.least, groups);
@@ -73,8 +75,8 @@ module _ (v k l : ℕ) (bounds : in_bounds (Bibd v k l) ≡ true) where
         record { all = points; block = refl; once = once },
       ))
 
-  pub fill_one : Can Fill1
-  unfolding bibd_terms allows premises_at CanBuildBibd CanBuildMade
+  fill_one : Can Fill1
+  unfolding bibd_terms allows premises_at CanBuildMade
   fill_one g u c d I e meet =
       let in_range = bibd_bounds v k l bounds in
       let t = (both (l == 1 && g * u == v - 1 && k <= g && k <= u) _ (both (within ((v - 1) / g) ((v - 1) / g) u) _ (both (within k ((v - 1) / k) g) _ e).1).1).0 in
@@ -82,7 +84,7 @@ module _ (v k l : ℕ) (bounds : in_bounds (Bibd v k l) ≡ true) where
       let points : g * u + 1 ≡ v = omega (arith, before, in_range.least, in_range.block) in
       let once : 1 ≡ l = grind (arith, nat_tests) in
       let groups : (k ≤ g) × (k ≤ u) = grind (arith, nat_tests) in
-      taken (Gdd k g u ∷ Bibd (g + 1) k 1 ∷ []) (CanBuildBibd v k l Fill1 g u c d) I meet (λ G gdd D design. (
+      taken (Gdd k g u ∷ Bibd (g + 1) k 1 ∷ []) (CanBuildMade v k l Fill1 g u) I meet (λ G gdd D design. (
         record {
           two = in_range.least;
           some = omega (arith, in_range.least, groups);
@@ -94,8 +96,8 @@ module _ (v k l : ℕ) (bounds : in_bounds (Bibd v k l) ≡ true) where
         record { all = points; block = refl; once = once },
       ))
 
-  pub pbd : Can PbdRule
-  unfolding bibd_terms allows premises_at CanBuildBibd CanBuildMade
+  pbd : Can PbdRule
+  unfolding bibd_terms allows premises_at CanBuildMade
   pbd s b c d I e meet =
       let n = (v - 1) / (k - 1) in
       let in_range = bibd_bounds v k l bounds in
@@ -105,7 +107,7 @@ module _ (v k l : ℕ) (bounds : in_bounds (Bibd v k l) ≡ true) where
       let blocks : (2 ≤ s) × (s + 1 < n) = grind (arith, nat_tests) in
       let points : (k - 1) * n + 1 ≡ v = omega (arith, div-add-mod' (v - 1) (k - 1), whole, in_range.least, in_range.block) in
       let larger : (k - 1) * (s + 1) ≤ (k - 1) * n = mul-le-mul_left (k - 1) (omega (arith, blocks)) in
-      taken (Pbd n s ∷ Bibd ((k - 1) * s + 1) k 1 ∷ Bibd ((k - 1) * (s + 1) + 1) k 1 ∷ []) (CanBuildBibd v k l PbdRule s b c d) I meet (λ P pbd C small D large. (
+      taken (Pbd n s ∷ Bibd ((k - 1) * s + 1) k 1 ∷ Bibd ((k - 1) * (s + 1) + 1) k 1 ∷ []) (CanBuildMade v k l PbdRule s b) I meet (λ P pbd C small D large. (
         record {
           two = in_range.least;
           blocks = blocks.0;
@@ -119,13 +121,13 @@ module _ (v k l : ℕ) (bounds : in_bounds (Bibd v k l) ≡ true) where
         record { all = points; block = refl; once = once },
       ))
 
-  pub sum : Can Sum
-  unfolding bibd_terms allows premises_at CanBuildBibd CanBuildMade
+  sum : Can Sum
+  unfolding bibd_terms allows premises_at CanBuildMade
   sum i b c d I e meet =
       let in_range = bibd_bounds v k l bounds in
       let t = (both (1 <= i && 2 * i <= l) _ (both (within 1 (l / 2) i) _ e).1).0 in
       let half : 2 * i ≤ l = grind (arith, nat_tests) in
-      taken (Bibd v k i ∷ Bibd v k (l - i) ∷ []) (CanBuildBibd v k l Sum i b c d) I meet (λ A first B second. record {
+      taken (Bibd v k i ∷ Bibd v k (l - i) ∷ []) (CanBuildMade v k l Sum i b) I meet (λ A first B second. record {
         two = in_range.least;
         points = in_range.points;
         most = omega arith;
@@ -134,8 +136,8 @@ module _ (v k l : ℕ) (bounds : in_bounds (Bibd v k l) ≡ true) where
         second = second;
       })
 
-  pub complements : Can Complement
-  unfolding bibd_terms allows premises_at CanBuildBibd CanBuildMade
+  complements : Can Complement
+  unfolding bibd_terms allows premises_at CanBuildMade
   complements a b c d I e meet =
       let in_range = bibd_bounds v k l bounds in
       let parts = both (nat_lt v (2 * k) && divides (k - 1) (l * (v - 1)) && divides k (v * replication_number v k l) && 1 <= complement_cover v k l) _ e in
@@ -143,7 +145,7 @@ module _ (v k l : ℕ) (bounds : in_bounds (Bibd v k l) ≡ true) where
       let count = both (nat_lt v (2 * k) && divides (k - 1) (l * (v - 1))) (divides k (v * replication_number v k l)) some.0 in
       let whole = both (nat_lt v (2 * k)) (divides (k - 1) (l * (v - 1))) count.0 in
       let inner = bibd_bounds v (v - k) (complement_cover v k l) (both (in_bounds (Bibd v (v - k) (complement_cover v k l))) _ parts.1).0 in
-      taken (Bibd v (v - k) (complement_cover v k l) ∷ []) (CanBuildBibd v k l Complement a b c d) I meet (λ A design. record {
+      taken (Bibd v (v - k) (complement_cover v k l) ∷ []) (CanBuildMade v k l Complement a b) I meet (λ A design. record {
         two = in_range.least;
         left = omega (arith, inner.least, in_range.block);
         points = in_range.points;
@@ -153,6 +155,19 @@ module _ (v k l : ℕ) (bounds : in_bounds (Bibd v k l) ≡ true) where
         covers = inner.cover;
         design = design;
       })
+
+  -- the others ask for no premises
+  pub made_can_build : (r : Rule) (a b c d : ℕ) (A : List (List ℕ)) (I : List (List (List ℕ))) → allows (bibd_terms v k l r) (a ∷ b ∷ c ∷ d ∷ []) ≡ true
+      → AllMeet (premises_at (bibd_terms v k l r) (a ∷ b ∷ c ∷ d ∷ [])) (A ∷ I) → CanBuildMade v k l r a b (A ∷ I)
+  unfolding bibd_terms premises_at
+  made_can_build Developz a b c d A I e meet = developz a b c d (A ∷ I) e meet
+  made_can_build Developf a b c d A I e meet = developf a b c d (A ∷ I) e meet
+  made_can_build Fill a b c d A I e meet = fill a b c d (A ∷ I) e meet
+  made_can_build Fill1 a b c d A I e meet = fill_one a b c d (A ∷ I) e meet
+  made_can_build PbdRule a b c d A I e meet = pbd a b c d (A ∷ I) e meet
+  made_can_build Sum a b c d A I e meet = sum a b c d (A ∷ I) e meet
+  made_can_build Complement a b c d A I e meet = complements a b c d (A ∷ I) e meet
+  made_can_build r a b c d A I e meet = absurd meet
 
 -- with blocks of k - 1 points and one more
 extended : (n s k : ℕ) (P C D : List (List ℕ)) → CanPbdToBibd n s k P C D → IsBibd (canonical (from_pbd (k - 1) n s P C D)) ((k - 1) * n + 1) k 1
