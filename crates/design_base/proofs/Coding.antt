@@ -10,7 +10,7 @@ use Rattle.design_base.specs.declared.verdict.Criterion.{Criterion}
 use Rattle.design_base.specs.declared.verdict.Criterion.TheVariants.{Replication}
 use Rattle.design_base.specs.declared.verdict.Verdict.{Verdict}
 use Rattle.design_base.specs.declared.verdict.Verdict.TheVariants.{Yes, No, Unknown}
-use Rattle.design_base.specs.Codes.{code, read_code, verdict_in, step_if, is_own, IsVerdict}
+use Rattle.design_base.specs.Codes.{code, criteria, criterion_numbered, number_of_criterion, read_code, verdict_in, step_if, is_own, IsVerdict}
 use Rattle.design_base.specs.Rules.{number_of_rule, rule_numbered, rules, title}
 use Rattle.design_base.specs.Steps.{Step, IsStep, step}
 
@@ -22,47 +22,62 @@ rule_back : (r : Rule) → rule_numbered (number_of_rule r) ≡ Some r
 rule_back TdOne = refl
 rule_back r = refl
 
--- the rules stand in the order of their numbers
-abbrev are_numbered : ℕ → List Rule → Bool
-are_numbered n [] = true
-are_numbered n (r ∷ rs) = number_of_rule r == n + 1 && are_numbered (n + 1) rs
+-- a list in which each element has the number of its place
+module _ {X : Type 0} (number : X → ℕ) where
+  -- they are the numbers from n + 1 on
+  abbrev are_numbered : ℕ → List X → Bool
+  are_numbered n [] = true
+  are_numbered n (x ∷ xs) = number x == n + 1 && are_numbered (n + 1) xs
 
-number_at : (n i : ℕ) (rs ys : List Rule) (r : Rule) → are_numbered n rs ≡ true → drop i rs ≡ r ∷ ys → number_of_rule r ≡ n + i + 1
-number_at n zero [] ys r h e = absurd (cc)
-number_at n (suc i) [] ys r h e = absurd (cc)
-number_at n zero (x ∷ rs) ys r h e =
-    let a = both (number_of_rule x == n + 1) (are_numbered (n + 1) rs) h in
-    grind (arith, nat_tests, a.0, e)
-number_at n (suc i) (x ∷ rs) ys r h e =
-    let a = both (number_of_rule x == n + 1) (are_numbered (n + 1) rs) h in
-    omega (arith, number_at (n + 1) i rs ys r a.1 e)
+  number_at : (n i : ℕ) (xs ys : List X) (x : X) → are_numbered n xs ≡ true → drop i xs ≡ x ∷ ys → number x ≡ n + i + 1
+  number_at n zero [] ys x h e = absurd (cc)
+  number_at n (suc i) [] ys x h e = absurd (cc)
+  number_at n zero (z ∷ xs) ys x h e =
+      let a = both (number z == n + 1) (are_numbered (n + 1) xs) h in
+      grind (arith, nat_tests, a.0, e)
+  number_at n (suc i) (z ∷ xs) ys x h e =
+      let a = both (number z == n + 1) (are_numbered (n + 1) xs) h in
+      omega (arith, number_at (n + 1) i xs ys x a.1 e)
 
-none_numbered : (n i : ℕ) (rs : List Rule) → are_numbered n rs ≡ true → (i ≤ n) ⊎ (n + length rs < i) → find (λ r. number_of_rule r == i) rs ≡ None
-none_numbered n i [] h l = refl
-none_numbered n i (x ∷ rs) h l =
-    let a = both (number_of_rule x == n + 1) (are_numbered (n + 1) rs) h in
-    let other : (number_of_rule x == i) ≡ false = grind (arith, nat_tests, a.0, l) in
-    let further : (i ≤ n + 1) ⊎ (n + 1 + length rs < i) = by l in
-    ap (λ b. cond b (Some x) (find (λ r. number_of_rule r == i) rs)) other ∙ none_numbered (n + 1) i rs a.1 further
-  where
-    by : (i ≤ n) ⊎ (n + length (x ∷ rs) < i) → (i ≤ n + 1) ⊎ (n + 1 + length rs < i)
-    by (inl h) = inl (omega arith)
-    by (inr h) = inr (omega arith)
+  none_numbered : (n i : ℕ) (xs : List X) → are_numbered n xs ≡ true → (i ≤ n) ⊎ (n + length xs < i) → find (λ x. number x == i) xs ≡ None
+  none_numbered n i [] h l = refl
+  none_numbered n i (x ∷ xs) h l =
+      let a = both (number x == n + 1) (are_numbered (n + 1) xs) h in
+      let other : (number x == i) ≡ false = grind (arith, nat_tests, a.0, l) in
+      let further : (i ≤ n + 1) ⊎ (n + 1 + length xs < i) = by l in
+      ap (λ b. cond b (Some x) (find (λ x. number x == i) xs)) other ∙ none_numbered (n + 1) i xs a.1 further
+    where
+      by : (i ≤ n) ⊎ (n + length (x ∷ xs) < i) → (i ≤ n + 1) ⊎ (n + 1 + length xs < i)
+      by (inl h) = inl (omega arith)
+      by (inr h) = inr (omega arith)
+
+  outside : (i : ℕ) (xs : List X) → are_numbered 0 xs ≡ true → (i ≡ 0) ⊎ (length xs < i) → find (λ x. number x == i) xs ≡ None
+  outside i xs h (inl e) = none_numbered 0 i xs h (inl (omega (arith, e)))
+  outside i xs h (inr l) = none_numbered 0 i xs h (inr (omega (arith, l)))
 
 pub rule_found : (i : ℕ) (r : Rule) (ys : List Rule) → drop i rules ≡ r ∷ ys → rule_numbered (i + 1) ≡ Some r
 rule_found i r ys e =
-    let k = number_at 0 i rules ys r refl e in
-    let n : number_of_rule r ≡ i + 1 = omega (arith, k) in
+    let n : number_of_rule r ≡ i + 1 = omega (arith, number_at number_of_rule 0 i rules ys r refl e) in
     ap rule_numbered (sym n) ∙ rule_back r
 
 pub rule_none : (i : ℕ) → (i ≡ 0) ⊎ (length rules < i) → rule_numbered i ≡ None
-rule_none i h = none_numbered 0 i rules refl (by h)
-  where
-    by : (i ≡ 0) ⊎ (length rules < i) → (i ≤ 0) ⊎ (0 + length rules < i)
-    by (inl e) = inl (omega arith)
-    by (inr l) = inr (omega arith)
+rule_none i h = outside number_of_rule i rules refl h
 
 pub ruleset rule_laws = (rule_found, rule_none)
+
+criterion_back : (c : Criterion) → criterion_numbered (number_of_criterion c) ≡ Some c
+criterion_back Replication = refl
+criterion_back c = refl
+
+pub criterion_found : (i : ℕ) (c : Criterion) (ys : List Criterion) → drop i criteria ≡ c ∷ ys → criterion_numbered (i + 1) ≡ Some c
+criterion_found i c ys e =
+    let n : number_of_criterion c ≡ i + 1 = omega (arith, number_at number_of_criterion 0 i criteria ys c refl e) in
+    ap criterion_numbered (sym n) ∙ criterion_back c
+
+pub criterion_none : (i : ℕ) → (i ≡ 0) ⊎ (length criteria < i) → criterion_numbered i ≡ None
+criterion_none i h = outside number_of_criterion i criteria refl h
+
+pub ruleset criterion_laws = (criterion_found, criterion_none)
 
 -- the parameters past the rule's own are 0
 pub own_step : (r : Rule) (a b c d : ℕ) → a ≤ PARAMETER_MAX → b ≤ PARAMETER_MAX → c ≤ PARAMETER_MAX → d ≤ PARAMETER_MAX

@@ -17,6 +17,6 @@ some-first_in {X} test (x ∷ xs) = by_test (test x) (some-first_in test xs)
     by_test false e = e
 
 -- the orders are those of the listed polynomials
-pub order_listed : (q : ℕ) → list_any (λ order. order == q) FIELD_ORDERS ≡ has_field q
+pub order_listed : (q : ℕ) → list_any (λ order. order == q) FIELD_ORDERS.now ≡ has_field q
 unfolding moduli modulus_of
 order_listed q = sym (some-first_in (λ s. order s == q) moduli)

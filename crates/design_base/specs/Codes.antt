@@ -2,26 +2,26 @@
 use Rattle.std.specs.Prelude.{ℕ, ◌+◌, ◌*◌, ◌/◌, ◌%◌, ◌^◌, ◌==◌, nat_lt, ⊤, Bool, ◌&&◌, ◌||◌, List, [], ◌∷◌, if◌then◌else◌, Option, Some, None, find, option_map, option_and_then}
 use Rattle.design_base.specs.declared.rule.Rule.{Rule}
 use Rattle.design_base.specs.declared.verdict.Criterion.{Criterion}
-use Rattle.design_base.specs.declared.verdict.Criterion.TheVariants.{Replication, Count, Fisher, Groups, FewGroups, GroupReplication, GroupCount, Differences, Points}
+use Rattle.design_base.specs.declared.verdict.Criterion.TheVariants.{Replication}
+use Rattle.design_base.specs.declared.verdict.TheConstants.{CRITERIA}
+use Rattle.design_base.specs.contracts.verdict.Criterion.{enum}
+use denote.Enum.Declared.{declared, tag_of}
 use Rattle.design_base.specs.declared.verdict.Verdict.{Verdict}
 use Rattle.design_base.specs.declared.verdict.Verdict.TheVariants.{Yes, No, Unknown}
 use Rattle.design_base.specs.Rules.{title, number_of_rule, rule_numbered}
 use Rattle.design_base.specs.Steps.{Step, IsStep, step}
 
--- the place of a criterion among all of them
-abbrev pub number_of_criterion : Criterion → ℕ
-number_of_criterion Replication = 1
-number_of_criterion Count = 2
-number_of_criterion Fisher = 3
-number_of_criterion Groups = 4
-number_of_criterion FewGroups = 5
-number_of_criterion GroupReplication = 6
-number_of_criterion GroupCount = 7
-number_of_criterion Differences = 8
-number_of_criterion Points = 9
+abbrev place_of_criterion : Criterion → ℕ
+place_of_criterion c = tag_of (declared enum) c
 
+-- the number of a criterion: its place among the variants, from 1
+abbrev pub number_of_criterion : Criterion → ℕ
+number_of_criterion Replication = place_of_criterion Replication + 1
+number_of_criterion c = place_of_criterion c + 1
+
+-- the criteria in the order of their numbers
 abbrev pub criteria : List Criterion
-criteria = Replication ∷ Count ∷ Fisher ∷ Groups ∷ FewGroups ∷ GroupReplication ∷ GroupCount ∷ Differences ∷ Points ∷ []
+criteria = CRITERIA.now
 
 -- the criterion with this number
 abbrev pub criterion_numbered : ℕ → Option Criterion

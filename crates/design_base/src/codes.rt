@@ -1,18 +1,18 @@
 //! The numbers of the verdicts: a word for each, and never 0.
-ghost use Rattle.std.specs.Prelude.{◌≡◌, ◌*◌, ◌/◌, ◌%◌, ◌^◌, ◌≤◌, ◌<◌, IfSome, Some};
+ghost use Rattle.std.specs.Prelude.{◌≡◌, ◌+◌, ◌*◌, ◌/◌, ◌%◌, ◌^◌, ◌≤◌, ◌<◌, ◌∷◌, IfSome, Some, drop, length};
 ghost use Rattle.design_base.specs.declared.limits.TheConstants.{PARAMETER_MAX};
 ghost use Rattle.design_base.specs.declared.verdict.Verdict.{Verdict as Answer};
-ghost use Rattle.design_base.specs.Codes.{code as code_of, criterion_numbered as criterion_with, is_own as is_own_of, number_of_criterion, read_code as verdict_of, step_if as step_of, step_in as step_within, verdict_in as verdict_within, IsVerdict};
+ghost use Rattle.design_base.specs.Codes.{code as code_of, criteria, criterion_numbered as criterion_with, is_own as is_own_of, number_of_criterion, read_code as verdict_of, step_if as step_of, step_in as step_within, verdict_in as verdict_within, IsVerdict};
 ghost use Rattle.design_base.specs.Rules.{rule_numbered as rule_with};
 
 use crate::rule::{RULES, Rule, rule_at};
 use crate::step::Step;
-use crate::verdict::{Criterion, Verdict};
+use crate::verdict::{CRITERIA, Criterion, Verdict};
 
 // The place of a criterion among all of them.
 fn criterion_number(criterion: Criterion) -> u64
     ensures value { result ≡ number_of_criterion criterion }
-    ensures small { result ≤ 9 }
+    ensures small { result ≤ length criteria }
 {
     criterion as u64 + 1
 }
@@ -45,22 +45,24 @@ pub fn code(verdict: &Verdict) -> u64
     coded(verdict)
 }
 
+// The criterion at a place.
+#[tactic(auto, using(std::proofs::lemmas::List::drop_more))]
+fn criterion_at(list: &[Criterion], i: usize) -> Criterion
+    requires { i < length list.now }
+    ensures { drop i list.now ≡ result ∷ drop (i + 1) list.now }
+{
+    list[i]
+}
+
 // The criterion with this number.
+#[tactic(auto, using(crate::proofs::Coding::criterion_laws))]
 fn criterion_numbered(number: u64) -> Option<Criterion>
     ensures { result ≡ criterion_with number }
 {
-    match number {
-        1 => Some(Criterion::Replication),
-        2 => Some(Criterion::Count),
-        3 => Some(Criterion::Fisher),
-        4 => Some(Criterion::Groups),
-        5 => Some(Criterion::FewGroups),
-        6 => Some(Criterion::GroupReplication),
-        7 => Some(Criterion::GroupCount),
-        8 => Some(Criterion::Differences),
-        9 => Some(Criterion::Points),
-        _ => None,
+    if number == 0 || number > CRITERIA.len() as u64 {
+        return None;
     }
+    Some(criterion_at(CRITERIA, number as usize - 1))
 }
 
 // The rule with this number.

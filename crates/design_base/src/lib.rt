@@ -23,4 +23,4 @@ pub use query::{
 pub use refusal::Memory;
 pub use rule::{Kind, RULES, Rule, RuleTitle, rule_at, rule_named};
 pub use step::Step;
-pub use verdict::{Criterion, Verdict};
+pub use verdict::{CRITERIA, Criterion, Verdict};

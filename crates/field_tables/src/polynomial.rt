@@ -23,7 +23,7 @@ macro_rules! polynomial {
 }
 
 /// The listed polynomials. A prime order has the polynomial x.
-static LISTED: [Polynomial; 44] = [
+static LISTED: &[Polynomial] = &[
     polynomial!(2, 2, &[0]),
     polynomial!(3, 3, &[0]),
     polynomial!(4, 2, &[1, 1]),
@@ -98,7 +98,7 @@ fn negated(prime: u16, lower: &[u16]) -> u16
 pub fn listed(q: u16) -> Option<&'static Polynomial>
     ensures { MatchOption result (modulus_of q ≡ None) (λ f. (f.now.order ≡ q) × IsListed f.now) }
 {
-    of_order(&LISTED, q)
+    of_order(LISTED, q)
 }
 
 // The first of the polynomials whose field has this order.

@@ -13,7 +13,7 @@ use Rattle.design_base.specs.Limits.{in_bounds}
 use Rattle.design_base.proofs.Numbering.{same_question}
 use Rattle.rule_terms.specs.Rank.{rank}
 use Rattle.rule_table.specs.Noted.{noted_from, noted, IsNoted, AreNotes, AreMarks}
-use Rattle.rule_table.specs.Told.{Cells, Has, Grows, Learns, IsPaid, IsCellBelow}
+use Rattle.rule_table.specs.Told.{Cells, Has, Grows, Learns, IsCounted, IsCellBelow}
 use Rattle.rule_table.specs.Verdicts.{verdict}
 use Rattle.rule_table.proofs.Sets.{insert_has, insert_keeps, insert_from, empty_has, same_cells, len_insert, len_insert_le}
 
@@ -152,15 +152,15 @@ word_read ws q w a b is n =
     ap read_code is ∙ r.word ∙ ap (λ p. Some (verdict p)) (same_question r.question q r.bounds b r.cell)
 
 -- the question's own cell is noted
-pub note_ends : (q : Query) (old now : Cells) (start steps : ℕ) → in_bounds q ≡ true → Grows q old now → IsPaid old now (start + 1) steps → (Has old (cell_of q) → ⊥)
-    → Learns q old (sets.insert now (cell_of q)) × IsPaid old (sets.insert now (cell_of q)) start steps
-note_ends q old now start steps b g paid new = (
+pub note_ends : (q : Query) (old now : Cells) (start steps : ℕ) → in_bounds q ≡ true → Grows q old now → IsCounted old now (start + 1) steps → (Has old (cell_of q) → ⊥)
+    → Learns q old (sets.insert now (cell_of q)) × IsCounted old (sets.insert now (cell_of q)) start steps
+note_ends q old now start steps b g counted new = (
   record {
     keeps = λ i h. insert_keeps now (cell_of q) i (g.keeps i h);
     own = insert_has now (cell_of q);
     fresh = λ i h. ⊎_elim (λ own. inl (inr own)) (λ k. ⊎_elim (λ was. inl (inl was)) (λ below. inr below) (g.fresh i k)) (insert_from now (cell_of q) i h);
   },
-  omega (arith, paid, len_insert now (cell_of q) still_new),
+  omega (arith, counted, len_insert now (cell_of q) still_new),
 )
   where
     not_below : IsCellBelow q (cell_of q) → ⊥

@@ -10,14 +10,14 @@ use Rattle.rule_table.specs.Told.{Cells, Has, Grows, Learns, IsCellBelow, ToldAf
 lower : (p q : Query) (i : ℕ) → rank p ≤ rank q → IsCellBelow p i → IsCellBelow q i
 lower p q i h c = record { question = c.question; bounds = c.bounds; smaller = omega (arith, h, c.smaller); cell = c.cell }
 
-grows_then : (q : Query) (x y z : Cells) → Grows q x y → Grows q y z → Grows q x z
+pub grows_then : (q : Query) (x y z : Cells) → Grows q x y → Grows q y z → Grows q x z
 grows_then q x y z g h = record { keeps = λ i k. h.keeps i (g.keeps i k); fresh = λ i k. back i (h.fresh i k) }
   where
     back : (i : ℕ) → Has y i ⊎ IsCellBelow q i → Has x i ⊎ IsCellBelow q i
     back i (inl k) = g.fresh i k
     back i (inr c) = inr c
 
-learned_grows : (p q : Query) (x y : Cells) → in_bounds p ≡ true → rank p < rank q → Learns p x y → Grows q x y
+pub learned_grows : (p q : Query) (x y : Cells) → in_bounds p ≡ true → rank p < rank q → Learns p x y → Grows q x y
 learned_grows p q x y b l h = record { keeps = h.keeps; fresh = λ i k. by i (h.fresh i k) }
   where
     own : (i : ℕ) → i ≡ cell_of p → IsCellBelow q i

@@ -35,6 +35,10 @@ pub record Learns (q : Query) (old new : Cells) : Type 0 where
   pub own : Has new (cell_of q)
   pub fresh : (i : ℕ) → Has new i → (Has old i ⊎ (i ≡ cell_of q)) ⊎ IsCellBelow q i
 
+-- the steps rise by the number of new cells: each is one evaluation
+abbrev pub IsCounted : Cells → Cells → ℕ → ℕ → Type 0
+IsCounted old new old_steps new_steps = new_steps + set.len old ≡ old_steps + set.len new
+
 -- the steps rise by at most the number of new cells
 abbrev pub IsPaid : Cells → Cells → ℕ → ℕ → Type 0
 IsPaid old new old_steps new_steps = new_steps + set.len old ≤ old_steps + set.len new

@@ -3,7 +3,7 @@ ghost use Rattle.std.specs.Prelude.{◌≡◌, true, IfOk, MatchOption};
 ghost use Rattle.std.specs.FinSet as set;
 ghost use Rattle.design_base.specs.Cells.{cell_of as cell_number};
 ghost use Rattle.design_base.specs.Limits.{in_bounds};
-ghost use Rattle.rule_table.specs.Told.{Has, Learns, IsPaid};
+ghost use Rattle.rule_table.specs.Told.{Has, Learns, IsCounted};
 ghost use Rattle.rule_table.specs.Verdicts.{verdict};
 
 use crate::asker::Asker;
@@ -17,9 +17,10 @@ use std::alloc::Global;
 use std::marker::Model;
 use std::sync::ledger::Ledger;
 
-/// Remembers each verdict that it computes, and answers from what it remembers: a word for each cell, which is 0 where the verdict is not
-/// known, and else its code. It is seen as the cells that it knows, and tells them; it asks no memo that others see. It takes no memory but
-/// where it is made, and touches only the parts of it in which a verdict is noted.
+/// A memo: it remembers each verdict that it computes, and answers from what it remembers. It keeps a word for each cell, which is 0 where the
+/// verdict is not known, and else its code. It is seen as the cells that it knows, and tells them; it asks no memo that others see. Each cell
+/// that it comes to know is one evaluation and one step. It takes no memory but where it is made, and touches only the parts of it in which a
+/// verdict is noted.
 #[derive(Drop)]
 pub struct Notes {
     words: SparseWords,
@@ -71,12 +72,13 @@ impl Notes {
     }
 }
 
-// The verdict of a question, which is noted afterwards. What its evaluation asks for is noted before it.
+// The verdict of a question, which is noted afterwards. What its evaluation asks for is noted before it. Each cell that was not known is
+// evaluated once.
 fn note<L: Ledger>(notes: &mut Notes, q: &Query, tools: &Tools, steps: &mut Steps<L>) -> Verdict
     requires { in_bounds q.now ≡ true }
     ensures verdict { result ≡ verdict q.now }
     ensures learns { Learns q.now notes.old notes.new }
-    ensures paid { IsPaid notes.old notes.new steps.old steps.new }
+    ensures counted { IsCounted notes.old notes.new steps.old steps.new }
 {
     if let Some(found) = notes.read(q) {
         return found;
@@ -103,7 +105,12 @@ impl Asker for Notes {
 
     ghost told = { λ n. Some n };
 
-    fn ask<L: Ledger>(&mut self, q: &Query, tools: &Tools, steps: &mut Steps<L>) -> Verdict {
+    fn ask<L: Ledger>(&mut self, q: &Query, tools: &Tools, steps: &mut Steps<L>) -> Verdict
+        requires bounds { in_bounds q.now ≡ true }
+        ensures verdict { result ≡ verdict q.now }
+        ensures learns { Learns q.now self.old self.new }
+        ensures counted { IsCounted self.old self.new steps.old steps.new }
+    {
         note(self, q, tools, steps)
     }
 }

@@ -111,7 +111,7 @@ fn assert_affine(rt: &impl Abort, alloc: Global, field: &Field, d: u16) -> Resul
 #[test]
 fn every_affine_geometry(rt: HostRuntime) -> Result<(), Fail> {
     let fields = Fields::open(rt.alloc())?;
-    for q in FIELD_ORDERS {
+    for q in FIELD_ORDERS.iter().copied() {
         let field = fields.field(q).ok_or("no field")?;
         for d in 1..8 {
             assert_affine(&rt, rt.alloc(), field, d)?;
