@@ -1,5 +1,6 @@
 -- The rules of block designs are grounded: a case a rule.
 use Rattle.std.proofs.Common.{◌≡◌, ℕ, ◌+◌, ◌-◌, ◌*◌, ◌/◌, ◌<◌, ◌≤◌, true, arith, refl, inl, inr}
+use Rattle.rule_terms.proofs.Tests.{five_tests, four_tests}
 use Rattle.counting.proofs.Booleans.{both, cases_lt, eqb-true, leb-true, ltb-true}
 use Rattle.std.proofs.Math.Nat.{mul-le-mul, mul-le-mul_left, div-mul-le_self, le-div_iff_mul-le}
 use Rattle.design_base.specs.declared.limits.TheConstants.{PREMISES_MAX}
@@ -101,43 +102,34 @@ bibd_grounded v k l b Developf = λ c bounds.
     record { last = refl; few = few; smaller = (family_smaller Field v k l, tt) }
 bibd_grounded v k l b Fill = λ g u c bounds.
     let few : 2 ≤ PREMISES_MAX = omega arith in
-    let many = both _ _ c in
-    let wide = both _ _ many.0 in
-    let sides = both _ _ wide.0 in
-    let h : k ≤ g = leb-true _ _ wide.1 in
-    let e : g * u ≡ v = eqb-true _ _ sides.1 in
+    let tests = four_tests c in
+    let h : k ≤ g = leb-true _ _ tests.2 in
+    let e : g * u ≡ v = eqb-true _ _ tests.1 in
     let d = gdd_bounds k g u bounds.0 in
     let f = below_multiple u g d.groups d.some in
     record { last = refl; few = few; smaller = (wide_smaller v k g u l bounds.0 h (omega arith), (points_smaller v k g k l (omega arith), tt)) }
 bibd_grounded v k l b Fill1 = λ g u c bounds.
     let few : 2 ≤ PREMISES_MAX = omega arith in
-    let many = both _ _ c in
-    let wide = both _ _ many.0 in
-    let sides = both _ _ wide.0 in
-    let h : k ≤ g = leb-true _ _ wide.1 in
-    let e : g * u ≡ v - 1 = eqb-true _ _ sides.1 in
+    let tests = four_tests c in
+    let h : k ≤ g = leb-true _ _ tests.2 in
+    let e : g * u ≡ v - 1 = eqb-true _ _ tests.1 in
     let d = gdd_bounds k g u bounds.0 in
     let f = below_multiple u g d.groups d.some in
     record { last = refl; few = few; smaller = (wide_smaller v k g u l bounds.0 h (omega arith), (points_smaller v k (g + 1) k l (omega arith), tt)) }
 bibd_grounded v k l b PbdRule = λ s c bounds.
     let few : 3 ≤ PREMISES_MAX = omega arith in
-    let some = both _ _ c in
-    let two = both _ _ some.0 in
-    let whole = both _ _ two.0 in
-    let d = both _ _ whole.0 in
-    let f = lines_smaller v k ((v - 1) / (k - 1)) s (leb-true _ _ d.1) (ltb-true _ _ some.1) (div-mul-le_self (v - 1) (k - 1)) in
+    let tests = five_tests c in
+    let f = lines_smaller v k ((v - 1) / (k - 1)) s (leb-true _ _ tests.1) (ltb-true _ _ tests.4) (div-mul-le_self (v - 1) (k - 1)) in
     record { last = refl; few = few; smaller = (pbd_smaller v k ((v - 1) / (k - 1)) s l f.lines, (points_smaller v k ((k - 1) * s + 1) k l f.short, (points_smaller v k ((k - 1) * (s + 1) + 1) k l f.long, tt))) }
 bibd_grounded v k l b Sum = λ i c bounds.
     let few : 2 ≤ PREMISES_MAX = omega arith in
-    let d = both _ _ c in
-    let some : 1 ≤ i = leb-true _ _ d.0 in
-    let half : 2 * i ≤ l = leb-true _ _ d.1 in
+    let tests = both _ _ c in
+    let some : 1 ≤ i = leb-true _ _ tests.0 in
+    let half : 2 * i ≤ l = leb-true _ _ tests.1 in
     record { last = refl; few = few; smaller = (same_points v k k i l (omega arith), (same_points v k k (l - i) l (omega arith), tt)) }
 bibd_grounded v k l b Complement = λ c bounds.
     let few : 1 ≤ PREMISES_MAX = omega arith in
-    let some = both _ _ c in
-    let whole = both _ _ some.0 in
-    let d = both _ _ whole.0 in
-    let f = complement_falls v k l b (ltb-true _ _ d.0) (leb-true _ _ some.1) in
+    let tests = four_tests c in
+    let f = complement_falls v k l b (ltb-true _ _ tests.0) (leb-true _ _ tests.3) in
     record { last = refl; few = few; smaller = (same_points v k (v - k) _ l f, tt) }
 bibd_grounded v k l b r = λ c. cc

@@ -1,6 +1,7 @@
 -- The designs on curves meet their questions, so that their lists need no check.
 use Rattle.std.proofs.Common.{Bool, List, ap, arith, false, refl, subst, sym, true, ℕ, ◌&&◌, ◌+◌, ◌-◌, ◌<◌, ◌==◌, ◌^◌, ◌∙◌, ◌≡◌, ◌≤◌}
-use Rattle.counting.proofs.Booleans.{both, eqb-true, leb-true, ltb-true}
+use Rattle.rule_terms.proofs.Tests.{five_tests, six_tests}
+use Rattle.counting.proofs.Booleans.{eqb-true, leb-true, ltb-true}
 use Rattle.std.specs.Prelude.{nat_lt}
 use Rattle.counting.specs.Search.{each_passes, first_in, ◌<=◌}
 use Rattle.counting.specs.Sums.{join_below, list_below}
@@ -39,11 +40,8 @@ record IsUnitalSize (v k l q : ℕ) : Type 0 where
 
 unital_size : (v k l q : ℕ) → (k == q + 1 && l == 1 && v == q ^ 3 + 1 && 2 <= q && has_field (q ^ 2)) ≡ true → IsUnitalSize v k l q
 unital_size v k l q e =
-    let d = both _ _ e in
-    let c = both _ _ d.0 in
-    let b = both _ _ c.0 in
-    let a = both _ _ b.0 in
-    record { block = eqb-true _ _ a.0; once = eqb-true _ _ a.1; points = eqb-true _ _ b.1; order = leb-true _ _ c.1; listed = d.1 }
+    let tests = five_tests e in
+    record { block = eqb-true _ _ tests.0; once = eqb-true _ _ tests.1; points = eqb-true _ _ tests.2; order = leb-true _ _ tests.3; listed = tests.4 }
 
 unital_passes : (v k l q : ℕ) → v ≤ POINTS_MAX → IsUnitalSize v k l q → passes_check (Bibd v k l) (unital_blocks q) ≡ true
 unital_passes v k l q few h =
@@ -63,13 +61,16 @@ record IsArcSize (v k l r s : ℕ) : Type 0 where
   pub listed : s ≤ 7
 
 arc_numbers : (v k l r s : ℕ) → (k == 2 ^ r && l == 1 && v == arc_size r s && 1 <= r && nat_lt r s && s <= 7) ≡ true → IsArcSize v k l r s
-arc_numbers v k l r s g =
-    let e = both _ _ g in
-    let d = both _ _ e.0 in
-    let c = both _ _ d.0 in
-    let b = both _ _ c.0 in
-    let a = both _ _ b.0 in
-    record { block = eqb-true _ _ a.0; once = eqb-true _ _ a.1; points = eqb-true _ _ b.1; two = leb-true _ _ c.1; smaller = ltb-true _ _ d.1; listed = leb-true _ _ e.1 }
+arc_numbers v k l r s e =
+    let tests = six_tests e in
+    record {
+      block = eqb-true _ _ tests.0;
+      once = eqb-true _ _ tests.1;
+      points = eqb-true _ _ tests.2;
+      two = leb-true _ _ tests.3;
+      smaller = ltb-true _ _ tests.4;
+      listed = leb-true _ _ tests.5;
+    }
 
 arc_listed : (v k l r s : ℕ) → IsArcSize v k l r s → has_field (2 ^ s) ≡ true
 arc_listed v k l r s h = (even_field s (omega (arith, h.two, h.smaller)) h.listed).0

@@ -1,9 +1,10 @@
 -- The rules of group divisible designs are grounded: a case a rule.
 use Rattle.std.proofs.Common.{◌≡◌, ℕ, ◌+◌, ◌-◌, ◌*◌, ◌/◌, ◌^◌, ◌<◌, ◌≤◌, true, ◌||◌, arith, ap, refl, inl, inr}
+use Rattle.rule_terms.proofs.Tests.{five_tests, three_tests}
 use Rattle.std.specs.Prelude.{nat_lt}
 use Rattle.counting.specs.Division.{divides}
 use Rattle.counting.specs.Search.{◌<=◌}
-use Rattle.counting.proofs.Booleans.{both, cases_lt, eqb-true, leb-true}
+use Rattle.counting.proofs.Booleans.{cases_lt, eqb-true, leb-true}
 use Rattle.std.proofs.lemmas.Bool.Decides.{nat_tests}
 use Rattle.std.proofs.Math.Nat.{mul-le-mul, mul-le-mul_left, div-add-mod'}
 use Rattle.design_base.specs.declared.limits.TheConstants.{POINTS_MAX, PREMISES_MAX}
@@ -86,24 +87,21 @@ gdd_grounded k g u b GddDelete = λ c bounds.
     record { last = refl; few = few; smaller = (block_smaller k g u ((k - 1) * u + 1) k (omega (arith, d.least)) (omega arith), tt) }
 gdd_grounded k g u b Weight = λ w s c bounds.
     let few : 2 ≤ PREMISES_MAX = omega arith in
-    let last = both _ _ c in
-    let most = both _ _ last.0 in
-    let d = both _ _ (both _ _ most.0).0 in
-    let lw : 2 ≤ w = leb-true _ _ d.0 in
-    let lu : s ≤ u = leb-true _ _ most.1 in
-    let e = divided w g d.1 in
+    let tests = five_tests c in
+    let lw : 2 ≤ w = leb-true _ _ tests.0 in
+    let lu : s ≤ u = leb-true _ _ tests.3 in
+    let e = divided w g tests.1 in
     let master = gdd_bounds s (g / w) u bounds.0 in
     let filler = gdd_bounds k w s bounds.1.0 in
     let f = master_smaller g u (g / w) w lw master.some master.groups e in
-    let h = filler_smaller g u (g / w) w s lw master.some filler.groups lu last.1 e in
+    let h = filler_smaller g u (g / w) w s lw master.some filler.groups lu tests.4 e in
     record { last = refl; few = few; smaller = (fewer_points k g u s (g / w) u (omega (arith, master.few)) f, (fewer_points k g u k w s (omega (arith, filler.few)) h, tt)) }
 gdd_grounded k g u b Split = λ n c bounds.
     let few : 2 ≤ PREMISES_MAX = omega arith in
-    let most = both _ _ c in
-    let d = both _ _ most.0 in
-    let ln : 2 ≤ n = leb-true _ _ d.0 in
-    let lq : 2 ≤ u / n = leb-true _ _ most.1 in
-    let e = divided n u d.1 in
+    let tests = three_tests c in
+    let ln : 2 ≤ n = leb-true _ _ tests.0 in
+    let lq : 2 ≤ u / n = leb-true _ _ tests.2 in
+    let e = divided n u tests.1 in
     let small : u < 2 ^ 16 = omega (arith, (gdd_bounds k g u b).few) in
     let p : u / n < n * (u / n) = below_multiple n (u / n) ln (omega arith) in
     let q : n < u / n * n = below_multiple (u / n) n lq (omega arith) in

@@ -11,3 +11,4 @@ pub mod Ranks
 pub mod Rules
 pub mod Samples
 pub mod TdRules
+pub mod Tests

@@ -1,5 +1,6 @@
 -- The rules of pairwise balanced designs are grounded: a case a rule.
 use Rattle.std.proofs.Common.{◌≡◌, ℕ, ◌+◌, ◌*◌, ◌<◌, ◌≤◌, Bool, true, false, [], ◌∷◌, arith, refl}
+use Rattle.rule_terms.proofs.Tests.{four_tests}
 use Rattle.std.specs.Prelude.{if◌then◌else◌}
 use Rattle.counting.proofs.Booleans.{both, eqb-true, leb-true}
 use Rattle.counting.specs.Search.{◌<=◌}
@@ -49,28 +50,24 @@ pbd_grounded v s b PbdDelete = λ c bounds.
     let few : 1 ≤ PREMISES_MAX = omega arith in
     record { last = refl; few = few; smaller = (block_smaller v s (v + 1) (s + 1) (omega arith), tt) }
 pbd_grounded v s b Truncate = λ t u c bounds.
-    let most = both _ _ c in
-    let some = both _ _ most.0 in
-    let d = both _ _ some.0 in
-    let e : s * t + u ≡ v = eqb-true _ _ d.0 in
-    let h : u ≤ t = leb-true _ _ most.1 in
+    let tests = four_tests c in
+    let e : s * t + u ≡ v = eqb-true _ _ tests.0 in
+    let h : u ≤ t = leb-true _ _ tests.3 in
     let f = pbd_bounds v s b in
-    let p = below_multiple s t f.least (omega (arith, leb-true _ _ d.1)) in
+    let p = below_multiple s t f.least (omega (arith, leb-true _ _ tests.1)) in
     truncate_grounded (2 <= u) v s t u f.few (omega arith) (omega arith)
 pbd_grounded v s b Tdfill = λ t c bounds.
     let few : 2 ≤ PREMISES_MAX = omega arith in
-    let d = both _ _ c in
-    let e : s * t ≡ v = eqb-true _ _ d.0 in
+    let tests = both _ _ c in
+    let e : s * t ≡ v = eqb-true _ _ tests.0 in
     let f = pbd_bounds v s b in
-    let p = below_multiple s t f.least (omega (arith, leb-true _ _ d.1)) in
+    let p = below_multiple s t f.least (omega (arith, leb-true _ _ tests.1)) in
     record { last = refl; few = few; smaller = (td_smaller v s s t (omega (arith, f.few)), (part_smaller v s t (omega arith), tt)) }
 pbd_grounded v s b Tdfill1 = λ t k c bounds.
     let few : 2 ≤ PREMISES_MAX = omega arith in
-    let most = both _ _ c in
-    let least = both _ _ most.0 in
-    let d = both _ _ least.0 in
-    let e : k * t + 1 ≡ v = eqb-true _ _ d.0 in
+    let tests = four_tests c in
+    let e : k * t + 1 ≡ v = eqb-true _ _ tests.0 in
     let f = pbd_bounds v s b in
-    let p = below_multiple k t (omega (arith, f.least, leb-true _ _ least.1)) (omega (arith, leb-true _ _ d.1)) in
+    let p = below_multiple k t (omega (arith, f.least, leb-true _ _ tests.2)) (omega (arith, leb-true _ _ tests.1)) in
     record { last = refl; few = few; smaller = (td_smaller v s k t (omega (arith, f.few)), (part_smaller v s (t + 1) (omega arith), tt)) }
 pbd_grounded v s b r = λ c. cc

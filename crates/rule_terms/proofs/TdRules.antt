@@ -1,6 +1,7 @@
 -- The rules of transversal designs are grounded: a case a rule.
 use Rattle.std.proofs.Common.{◌≡◌, ℕ, ◌+◌, ◌*◌, ◌<◌, ◌≤◌, arith, refl}
-use Rattle.counting.proofs.Booleans.{both, eqb-true, leb-true}
+use Rattle.rule_terms.proofs.Tests.{five_tests, seven_tests, three_tests}
+use Rattle.counting.proofs.Booleans.{eqb-true, leb-true}
 use Rattle.std.proofs.Math.Nat.{mul-le-mul_left, mul-le-mul}
 use Rattle.design_base.specs.declared.limits.TheConstants.{PREMISES_MAX}
 use Rattle.design_base.specs.declared.rule.Rule.{Rule}
@@ -39,36 +40,27 @@ td_grounded k n TdOne = λ c bounds. record { last = refl; few = omega arith; sm
 td_grounded k n Cyclic = λ c bounds. record { last = refl; few = omega arith; smaller = tt }
 td_grounded k n Field = λ c bounds. record { last = refl; few = omega arith; smaller = tt }
 td_grounded k n Product = λ a b c bounds.
-    let ordered = both _ _ c in
-    let d = both _ _ ordered.0 in
-    let f = product_smaller a b n (leb-true _ _ d.1) (leb-true _ _ ordered.1) (eqb-true _ _ d.0) in
+    let tests = three_tests c in
+    let f = product_smaller a b n (leb-true _ _ tests.1) (leb-true _ _ tests.2) (eqb-true _ _ tests.0) in
     record { last = refl; few = omega arith; smaller = (f.0, (f.1, tt)) }
 td_grounded k n Parker = λ m c bounds.
     let few : 1 ≤ PREMISES_MAX = omega arith in
-    let least = both _ _ c in
-    record { last = refl; few = few; smaller = (parker_smaller m n (leb-true _ _ least.1) (eqb-true _ _ (both _ _ least.0).1), tt) }
+    let tests = three_tests c in
+    record { last = refl; few = few; smaller = (parker_smaller m n (leb-true _ _ tests.2) (eqb-true _ _ tests.1), tt) }
 td_grounded k n Wilson1 = λ m t u c bounds.
-    let most = both _ _ c in
-    let least = both _ _ most.0 in
-    let long = both _ _ least.0 in
-    let d = both _ _ long.0 in
-    let e : m * t + u ≡ n = eqb-true _ _ d.0 in
-    let f = wilson_smaller m t k u n (leb-true _ _ d.1) (td_bounds k m bounds.1.0).groups (leb-true _ _ long.1) (leb-true _ _ most.1) (leb-true _ _ least.1) (omega arith) in
+    let tests = five_tests c in
+    let e : m * t + u ≡ n = eqb-true _ _ tests.0 in
+    let f = wilson_smaller m t k u n (leb-true _ _ tests.1) (td_bounds k m bounds.1.0).groups (leb-true _ _ tests.2) (leb-true _ _ tests.4) (leb-true _ _ tests.3) (omega arith) in
     record { last = refl; few = omega arith; smaller = (f.master, (f.filled, (f.wider, (f.last, tt)))) }
 td_grounded k n Wilson2 = λ m t u w c bounds.
-    let most = both _ _ c in
-    let ordered = both _ _ most.0 in
-    let least = both _ _ ordered.0 in
-    let long = both _ _ least.0 in
-    let wide = both _ _ long.0 in
-    let d = both _ _ wide.0 in
-    let e : m * t + u + w ≡ n = eqb-true _ _ d.0 in
-    let few : 2 ≤ m = leb-true _ _ d.1 in
-    let above : k + 1 ≤ t = leb-true _ _ long.1 in
-    let some : 1 ≤ w = leb-true _ _ least.1 in
-    let smaller : w ≤ u = leb-true _ _ ordered.1 in
+    let tests = seven_tests c in
+    let e : m * t + u + w ≡ n = eqb-true _ _ tests.0 in
+    let few : 2 ≤ m = leb-true _ _ tests.1 in
+    let above : k + 1 ≤ t = leb-true _ _ tests.3 in
+    let some : 1 ≤ w = leb-true _ _ tests.4 in
+    let smaller : w ≤ u = leb-true _ _ tests.5 in
     let groups : 2 ≤ k = (td_bounds k m bounds.1.0).groups in
-    let f = wilson_smaller m t k u n few groups (omega arith) (leb-true _ _ most.1) (omega arith) (omega arith) in
+    let f = wilson_smaller m t k u n few groups (omega arith) (leb-true _ _ tests.6) (omega arith) (omega arith) in
     let p : 2 * t ≤ m * t = mul-le-mul few (omega arith) in
     let q : m * 2 ≤ m * t = mul-le-mul_left m (omega arith) in
     record { last = refl; few = omega arith; smaller = (f.master, (f.filled, (f.wider, (omega arith, (f.last, (omega arith, tt)))))) }
