@@ -3,7 +3,7 @@ use Rattle.std.proofs.Common.{List, [], ap, refl, subst, sym, ℕ, ◌+◌, ◌�
 use Rattle.std.specs.Prelude.{IfErr, IfOk, None, Option, Result, Some}
 use Rattle.design_io.specs.InputLines.{InputLine, lines_of}
 use Rattle.std.specs.declared.result.Result.TheVariants.{Err, Ok}
-use Rattle.catalogues.specs.CatalogueText.{CatalogueText, IsBadCatalogue, Progress, at_end, bad_line, catalogue_text, entries, nothing_read, one_more, read_on}
+use Rattle.catalogues.specs.CatalogueText.{CatalogueText, IsBadCatalogue, Progress, at_end, bad_line, catalogue_text, entries, nothing_read, after_line, read_on}
 use Rattle.catalogues.specs.Listed.{Listed}
 use Rattle.catalogues.specs.declared.text.CatalogueEnd.{CatalogueEnd}
 use Rattle.catalogues.specs.declared.text.CatalogueEnd.TheVariants.{BadLine}
@@ -16,16 +16,16 @@ read_begins text = refl
 on_line : ℕ → List InputLine → Option Progress → CatalogueText
 on_line place lines o = elim o [ None ↦ bad_line place | Some next ↦ read_on (place + 1) next lines ]
 
-by_line : (place : ℕ) (p : Progress) (l : InputLine) (lines : List InputLine) → read_on place p (l ∷ lines) ≡ on_line place lines (one_more p.ended p.begun l.bytes)
+by_line : (place : ℕ) (p : Progress) (l : InputLine) (lines : List InputLine) → read_on place p (l ∷ lines) ≡ on_line place lines (after_line p.ended p.begun l.bytes)
 unfolding read_on on_line
 by_line place p l lines = refl
 
 module _ (whole : CatalogueText) (place : ℕ) (p : Progress) (lines : List InputLine) (reads : whole ≡ read_on place p lines) where
-  pub read_line : (l : InputLine) (more : List InputLine) (next : Progress) → lines ≡ l ∷ more → one_more p.ended p.begun l.bytes ≡ Some next → whole ≡ read_on (place + 1) next more
+  pub read_line : (l : InputLine) (more : List InputLine) (next : Progress) → lines ≡ l ∷ more → after_line p.ended p.begun l.bytes ≡ Some next → whole ≡ read_on (place + 1) next more
   unfolding on_line
   read_line l more next e o = reads ∙ ap (read_on place p) e ∙ by_line place p l more ∙ ap (on_line place more) o
 
-  pub read_bad : (l : InputLine) (more : List InputLine) → lines ≡ l ∷ more → one_more p.ended p.begun l.bytes ≡ None → whole ≡ bad_line place
+  pub read_bad : (l : InputLine) (more : List InputLine) → lines ≡ l ∷ more → after_line p.ended p.begun l.bytes ≡ None → whole ≡ bad_line place
   unfolding on_line
   read_bad l more e o = reads ∙ ap (read_on place p) e ∙ by_line place p l more ∙ ap (on_line place more) o
 

@@ -47,13 +47,13 @@ pub record Progress : Type 0 where
   pub ended : List Entry
   pub begun : Option Entry
 
-abbrev pub begin : Query → Entry
-begin q = record { query = q; blocks = [] }
+abbrev pub opened : Query → Entry
+opened q = record { query = q; blocks = [] }
 
 -- behind an entry stands a blank line, or a line that begins the next one
 abbrev pub between : List (List ℕ) → Option (Option Entry)
 between [] = Some None
-between (word ∷ words) = option_map (λ q. Some (begin q)) (question_of (word ∷ words))
+between (word ∷ words) = option_map (λ q. Some (opened q)) (question_of (word ∷ words))
 
 -- in an entry stands a block line, of which a blank line adds nothing, or the line that ends it
 abbrev pub with_block : Entry → List ℕ → Entry
@@ -63,10 +63,10 @@ abbrev pub with_line : List Entry → Entry → List ℕ → Option (List ℕ) �
 with_line es e line (Some row) = Some (record { ended = es; begun = Some (with_block e row) })
 with_line es e line None = if is_end (line_words line) then Some (record { ended = es ++ e ∷ []; begun = None }) else None
 
--- one line more; nothing where it is bad
-abbrev pub one_more : List Entry → Option Entry → List ℕ → Option Progress
-one_more es None line = option_map (λ begun. record { ended = es; begun = begun }) (between (line_words line))
-one_more es (Some e) line = with_line es e line (block_line line)
+-- what was read with one line more; nothing where it is bad
+abbrev pub after_line : List Entry → Option Entry → List ℕ → Option Progress
+after_line es None line = option_map (λ begun. record { ended = es; begun = begun }) (between (line_words line))
+after_line es (Some e) line = with_line es e line (block_line line)
 
 -- the rows of the entry that is begun and the numbers in them, together
 abbrev pub size_of_begun : Option Entry → ℕ
@@ -85,7 +85,7 @@ at_end place p = elim p.begun [ None ↦ entries p.ended | Some e ↦ bad_line p
 -- the lines from this place on
 unfoldable pub read_on : ℕ → Progress → List InputLine → CatalogueText
 read_on place p [] = at_end place p
-read_on place p (l ∷ lines) = elim (one_more p.ended p.begun l.bytes) [ None ↦ bad_line place | Some next ↦ read_on (place + 1) next lines ]
+read_on place p (l ∷ lines) = elim (after_line p.ended p.begun l.bytes) [ None ↦ bad_line place | Some next ↦ read_on (place + 1) next lines ]
 
 abbrev pub nothing_read : Progress
 nothing_read = record { ended = []; begun = None }

@@ -6,18 +6,17 @@ ghost use Rattle.catalogues.specs.Consults.{Asks, EndsWalk, IsExamined, StepAt, 
 use crate::catalogue::{Catalogue, OfferEnd};
 use crate::outcome::{ConsultEnd, Consulted, Offered, Rejected, Rejections};
 use design_base::{Memory, Query};
-use design_checks::{Finding, Scratch, check};
-use field_tables::Fields;
+use design_checks::{Checker, Finding};
 use incidence::Rows;
 use std::alloc::Global;
 
 // The canonical form of an offer, and whether it is a design.
-fn examine(rows: Rows, q: &Query, fields: &Fields, scratch: &mut Scratch) -> Result<Offered, Memory>
+fn examine(rows: Rows, q: &Query, checker: &mut Checker) -> Result<Offered, Memory>
     requires { in_bounds q.now ≡ true }
     ensures { IfOk result (λ offered. IsExamined q.now rows offered) }
 {
     let blocks = rows.canonical()?;
-    let finding = check(q, &blocks, fields, scratch);
+    let finding = checker.check(q, &blocks)?;
     if finding == Finding::Valid {
         return Ok(Offered::Fit(blocks));
     }
@@ -28,8 +27,7 @@ fn examine(rows: Rows, q: &Query, fields: &Fields, scratch: &mut Scratch) -> Res
 fn ask(
     catalogue: &mut Box<dyn Catalogue>,
     q: &Query,
-    fields: &Fields,
-    scratch: &mut Scratch,
+    checker: &mut Checker,
 ) -> Result<Offered, OfferEnd>
     requires { in_bounds q.now ≡ true }
     ensures { Asks q.now (seen catalogue.old) (seen catalogue.new) result }
@@ -37,7 +35,7 @@ fn ask(
     let Some(rows) = catalogue.offer(q)? else {
         return Ok(Offered::Nothing);
     };
-    match examine(rows, q, fields, scratch) {
+    match examine(rows, q, checker) {
         Ok(offered) => Ok(offered),
         Err(Memory) => Err(OfferEnd::Memory),
     }
@@ -48,15 +46,14 @@ fn ask_at(
     list: &mut Vec<Box<dyn Catalogue>>,
     i: usize,
     q: &Query,
-    fields: &Fields,
-    scratch: &mut Scratch,
+    checker: &mut Checker,
 ) -> Result<Offered, OfferEnd>
     requires bounds { in_bounds q.now ≡ true }
     requires within { i < length list.old.items }
     ensures size { length list.new.items ≡ length list.old.items }
     ensures asks { StepAt q.now i (map seen list.old.items) (map seen list.new.items) result }
 {
-    ask(&mut list[i], q, fields, scratch)
+    ask(&mut list[i], q, checker)
 }
 
 // Asks the catalogue at a place, and notes an offer that is no design.
@@ -65,8 +62,7 @@ fn step(
     rejected: &mut Rejections,
     i: usize,
     q: &Query,
-    fields: &Fields,
-    scratch: &mut Scratch,
+    checker: &mut Checker,
 ) -> Result<Option<Rows>, ConsultEnd>
     requires bounds { in_bounds q.now ≡ true }
     requires within { i < length list.old.items }
@@ -75,7 +71,7 @@ fn step(
     ensures steps { Steps q.now i (map seen list.old.items) (map seen list.new.items) rejected.old rejected.new result }
 {
     let number = i as u32 + 1;
-    match ask_at(list, i, q, fields, scratch) {
+    match ask_at(list, i, q, checker) {
         Ok(Offered::Nothing) => Ok(None),
         Ok(Offered::Unfit(finding)) => match rejected.push(Rejected { number, finding }) {
             Ok(()) => Ok(None),
@@ -93,8 +89,7 @@ pub fn walk(
     alloc: Global,
     list: &mut Vec<Box<dyn Catalogue>>,
     q: &Query,
-    fields: &Fields,
-    scratch: &mut Scratch,
+    checker: &mut Checker,
 ) -> Result<Consulted, ConsultEnd>
     requires bounds { in_bounds q.now ≡ true }
     requires few { length list.old.items < 2 ^ 32 }
@@ -105,7 +100,7 @@ pub fn walk(
 {
     let mut rejected = Rejections::new(alloc);
     for i in 0..list.len() {
-        match step(list, &mut rejected, i, q, fields, scratch) {
+        match step(list, &mut rejected, i, q, checker) {
             Ok(None) => {}
             Ok(Some(rows)) => {
                 return Ok(Consulted {

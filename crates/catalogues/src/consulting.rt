@@ -10,8 +10,7 @@ use crate::catalogue::Catalogue;
 use crate::dropping::drop_spent;
 use crate::outcome::{ConsultEnd, Consulted};
 use design_base::Query;
-use design_checks::Scratch;
-use field_tables::Fields;
+use design_checks::Checker;
 use std::alloc::Global;
 
 // The number of the catalogue that failed.
@@ -29,8 +28,7 @@ fn ask_and_drop(
     alloc: Global,
     list: &mut Vec<Box<dyn Catalogue>>,
     q: &Query,
-    fields: &Fields,
-    scratch: &mut Scratch,
+    checker: &mut Checker,
 ) -> Result<Consulted, ConsultEnd>
     requires bounds { in_bounds q.now ≡ true }
     requires few { length list.old.items < 2 ^ 32 }
@@ -38,7 +36,7 @@ fn ask_and_drop(
         (λ c. Consults q.now (map seen list.old.items) (map seen list.new.items) c.rejected c.valid)
         (λ end. EndsConsult q.now (map seen list.old.items) (map seen list.new.items) end) }
 {
-    let answer = walk(alloc, list, q, fields, scratch);
+    let answer = walk(alloc, list, q, checker);
     let failed = failed_in(&answer);
     drop_spent(list, failed);
     answer
@@ -48,13 +46,13 @@ fn ask_and_drop(
 /// canonical form and checked. The number of a catalogue is its place in the list as it was handed in, from 1. Afterwards, also
 /// after a refusal, the spent catalogues are dropped, but for one that failed in this call, and the others keep their order.
 /// `Failed` comes only where the count of failed offers of the catalogue with its number rose, and `Memory` only for want of
-/// memory. The question is in bounds, and the list has fewer than 4,294,967,296 catalogues.
+/// memory. The question is in bounds, and the list has fewer than 4,294,967,296 catalogues. What the checks need is opened by the
+/// checker at the first offer.
 pub fn consult(
     alloc: Global,
     list: &mut Vec<Box<dyn Catalogue>>,
     q: &Query,
-    fields: &Fields,
-    scratch: &mut Scratch,
+    checker: &mut Checker,
 ) -> Result<Consulted, ConsultEnd>
     requires bounds { in_bounds q.now ≡ true }
     requires few { length list.old.items < 2 ^ 32 }
@@ -67,7 +65,7 @@ pub fn consult(
     ensures cause { IfErr result (λ end. HasEnded (map seen list.old.items) (map seen list.new.items) end) }
     ensures left { AreLeft (map seen list.old.items) (map seen list.new.items) }
 {
-    match ask_and_drop(alloc, list, q, fields, scratch) {
+    match ask_and_drop(alloc, list, q, checker) {
         Ok(consulted) => Ok(consulted),
         Err(end) => Err(end),
     }

@@ -6,9 +6,8 @@ use crate::{
     SourceCatalogue, consult, read_catalogue,
 };
 use design_base::{Group, INPUT_MAX, Memory, Query, in_bounds};
-use design_checks::{Finding, Scratch};
+use design_checks::{Checker, Finding};
 use design_io::MemorySource;
-use field_tables::Fields;
 use incidence::Rows;
 use std::alloc::Global;
 use std::process::Abort;
@@ -44,11 +43,10 @@ fn consulted(
         let source = MemorySource::new(text.to_vec(alloc)?, Vec::new(alloc));
         list.push(Box::new(alloc, SourceCatalogue::new(alloc, source))?)?;
     }
-    let fields = Fields::open(alloc)?;
-    let mut scratch = Scratch::new(alloc)?;
+    let mut checker = Checker::new(alloc);
     assert!(rt; list.len() < 16);
     assert!(rt; in_bounds(&q));
-    let found = consult(alloc, &mut list, &q, &fields, &mut scratch);
+    let found = consult(alloc, &mut list, &q, &mut checker);
     Ok((found, list.len()))
 }
 

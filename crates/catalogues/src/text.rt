@@ -3,7 +3,7 @@ ghost use Rattle.std.specs.Prelude.{◌≡◌, ◌<◌, ◌≤◌, ◌+◌, ◌+
 ghost use Rattle.design_base.specs.declared.limits.TheConstants.{INPUT_MAX, PACKED_MAX};
 ghost use Rattle.design_io.specs.InputLines.{lines_of};
 ghost use Rattle.design_lines.specs.Reading.{whole};
-ghost use Rattle.catalogues.specs.CatalogueText.{IsBadCatalogue, at_end, bad_line, between, catalogue_text, design_line, entries, is_blank as no_word, is_end as ends, line_words, one_more, question_of, size_of_begun};
+ghost use Rattle.catalogues.specs.CatalogueText.{IsBadCatalogue, at_end, bad_line, between, catalogue_text, design_line, entries, is_blank as no_word, is_end as ends, line_words, after_line, question_of, size_of_begun};
 ghost use Rattle.catalogues.specs.Listed.{unasked};
 
 use crate::catalogue::Entry;
@@ -61,8 +61,8 @@ fn question_on(line: &[u8]) -> Option<Query>
     if in_bounds(&query) { Some(query) } else { None }
 }
 
-// What a line between two entries begins: nothing where it is blank, or an entry.
-fn begin(alloc: Global, line: &[u8]) -> Option<Option<Entry>>
+// What a line between two entries opens: nothing where it is blank, or an entry.
+fn open_entry(alloc: Global, line: &[u8]) -> Option<Option<Entry>>
     ensures { result ≡ between (line_words line.now) }
 {
     if is_blank(line) {
@@ -74,7 +74,7 @@ fn begin(alloc: Global, line: &[u8]) -> Option<Option<Entry>>
 }
 
 // Puts an entry behind those that are ended, where the line ends it.
-fn end_entry(ended: &mut Vec<Entry>, entry: Entry, line: &[u8]) -> Result<(), BlockLineEnd>
+fn close_entry(ended: &mut Vec<Entry>, entry: Entry, line: &[u8]) -> Result<(), BlockLineEnd>
     ensures ended { IfOk result (λ _. (ends (line_words line.now) ≡ true) × (ended.new.items ≡ ended.old.items ++ entry ∷ [])) }
     ensures bad { result ≡ Err BlockLineEnd.Bad → ends (line_words line.now) ≡ false }
 {
@@ -87,42 +87,42 @@ fn end_entry(ended: &mut Vec<Entry>, entry: Entry, line: &[u8]) -> Result<(), Bl
 
 // Adds a line to the entry that is begun, or ends it, and answers the entry that is begun then.
 #[tactic(auto, using(block_texts::proofs::RowNumbers::room_for_numbers))]
-fn go_on(
+fn add_to_entry(
     alloc: Global,
     ended: &mut Vec<Entry>,
     mut entry: Entry,
     line: &[u8],
 ) -> Result<Option<Entry>, BlockLineEnd>
     requires room { size_of_begun (Some entry) + length line.now + 1 < PACKED_MAX }
-    ensures more { IfOk result (λ begun. one_more ended.old.items (Some entry) line.now ≡ Some (record { ended = ended.new.items; begun = begun })) }
-    ensures bad { result ≡ Err BlockLineEnd.Bad → one_more ended.old.items (Some entry) line.now ≡ None }
+    ensures more { IfOk result (λ begun. after_line ended.old.items (Some entry) line.now ≡ Some (record { ended = ended.new.items; begun = begun })) }
+    ensures bad { result ≡ Err BlockLineEnd.Bad → after_line ended.old.items (Some entry) line.now ≡ None }
     ensures size { IfOk result (λ begun. size_of_begun begun ≤ size_of_begun (Some entry) + length line.now + 1) }
 {
     match push_block_line(alloc, &mut entry.blocks, line) {
         Ok(_) => Ok(Some(entry)),
         Err(BlockLineEnd::Memory) => Err(BlockLineEnd::Memory),
         Err(BlockLineEnd::Bad) => {
-            end_entry(ended, entry, line)?;
+            close_entry(ended, entry, line)?;
             Ok(None)
         }
     }
 }
 
-// Takes one line more, and answers the entry that is begun then. `Bad` comes exactly where the line may not stand there.
-fn take_line(
+// Adds a line to what was read, and answers the entry that is begun then. `Bad` comes exactly where the line may not stand there.
+fn add_line(
     alloc: Global,
     ended: &mut Vec<Entry>,
     begun: Option<Entry>,
     line: &[u8],
 ) -> Result<Option<Entry>, BlockLineEnd>
     requires room { size_of_begun begun + length line.now + 1 < PACKED_MAX }
-    ensures more { IfOk result (λ next. one_more ended.old.items begun line.now ≡ Some (record { ended = ended.new.items; begun = next })) }
-    ensures bad { result ≡ Err BlockLineEnd.Bad → one_more ended.old.items begun line.now ≡ None }
+    ensures more { IfOk result (λ next. after_line ended.old.items begun line.now ≡ Some (record { ended = ended.new.items; begun = next })) }
+    ensures bad { result ≡ Err BlockLineEnd.Bad → after_line ended.old.items begun line.now ≡ None }
     ensures size { IfOk result (λ next. size_of_begun next ≤ size_of_begun begun + length line.now + 1) }
 {
     match begun {
-        Some(entry) => go_on(alloc, ended, entry, line),
-        None => begin(alloc, line).ok_or(BlockLineEnd::Bad),
+        Some(entry) => add_to_entry(alloc, ended, entry, line),
+        None => open_entry(alloc, line).ok_or(BlockLineEnd::Bad),
     }
 }
 
@@ -169,7 +169,7 @@ pub fn read_catalogue(alloc: Global, text: &[u8]) -> Result<ListCatalogue, Catal
     let mut rest = text;
     let mut line = 1;
     while let Some(first) = first_line(rest) {
-        begun = match take_line(alloc, &mut ended, begun, first.bytes) {
+        begun = match add_line(alloc, &mut ended, begun, first.bytes) {
             Ok(next) => next,
             Err(BlockLineEnd::Bad) => return Err(CatalogueEnd::BadLine { line }),
             Err(BlockLineEnd::Memory) => return Err(CatalogueEnd::Memory),

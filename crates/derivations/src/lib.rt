@@ -20,7 +20,7 @@ mod unfolding;
 pub use laws::derivation_laws;
 pub use line::{Derivation, Fault, Line, LineFault, ReplayEnd};
 pub use names::Names;
-pub use replaying::replay;
+pub use replaying::{last_list, replay};
 pub use unfolding::derive;
 
 #[cfg(test)]

@@ -58,8 +58,9 @@ fn let_go(kept: &mut [Option<Rows>], from: &[u64])
     }
 }
 
-// The list of the last of the lines, which have no fault. The list of each line is kept up to its last use: no two lines name it.
-fn last_list(alloc: Global, lines: &[Line]) -> Result<Rows, Memory>
+/// The list of the last of the lines, which have no fault: a derivation that `derive` answers has none. The list of each line is kept up
+/// to its last use: no two lines name it. The answer is `Memory` only for want of memory.
+pub fn last_list(alloc: Global, lines: &[Line]) -> Result<Rows, Memory>
     requires { IsSound lines.now }
     ensures list { IfOk result (λ rows. rows ≡ replayed lines.now) }
     ensures meets { (q : Query) → last_question lines.now ≡ Some q → IfOk result (λ rows. Meets q rows) }

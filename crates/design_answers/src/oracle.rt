@@ -15,10 +15,9 @@ ghost use Rattle.rule_table.specs.Verdicts.{is_yes, verdict as verdict_of};
 
 use crate::tally::{Tally, tally_draws};
 use catalogues::{Catalogue, ConsultEnd, Consulted, consult};
-use derivations::{Derivation, ReplayEnd, derive, replay};
+use derivations::{Derivation, derive, last_list};
 use design_base::{Memory, Query, Step, Verdict};
-use design_checks::Scratch;
-use field_tables::Fields;
+use design_checks::Checker;
 use incidence::Rows;
 use rule_table::{Asker, Marks, Steps, Tools, visit};
 use std::alloc::Global;
@@ -31,25 +30,8 @@ pub struct Design {
     pub blocks: Rows,
 }
 
-// What the check of an offer needs.
-#[derive(Drop)]
-struct Examiner {
-    fields: Fields,
-    scratch: Scratch,
-}
-
-impl Examiner {
-    // All fields, and room to count in.
-    fn open(alloc: Global) -> Result<Examiner, Memory> {
-        Ok(Examiner {
-            fields: Fields::open(alloc)?,
-            scratch: Scratch::new(alloc)?,
-        })
-    }
-}
-
-/// The table of rules, whoever answers its questions, marks on questions, the count of evaluations, and what the check of offers
-/// needs: what the answers need of them, made once and lent to each.
+/// The table of rules, whoever answers its questions, marks on questions, the count of evaluations, and the checker of offers: made
+/// once, and lent to each answer.
 #[derive(Drop)]
 pub struct Oracle<'a, A: Asker + Drop, L: Ledger> {
     alloc: Global,
@@ -57,12 +39,13 @@ pub struct Oracle<'a, A: Asker + Drop, L: Ledger> {
     asker: A,
     marks: Marks,
     steps: &'a mut Steps<L>,
-    examiner: Option<Examiner>,
+    checker: Checker,
 }
 
 impl<'a, A: Asker + Drop, L: Ledger> Oracle<'a, A, L> {
-    /// What answers ask by this asker. Memory is taken from `alloc`, here for the marks and later for derivations and designs. The answer
-    /// is `Memory` only for want of memory.
+    /// An oracle that asks for verdicts by `asker` and counts evaluations on `steps`. It takes memory from `alloc`: here for a mark on each
+    /// question within the limits, and later for derivations, designs and the checks of offers. The answer is `Memory` only where the
+    /// marks cannot be had.
     pub fn open(
         alloc: Global,
         asker: A,
@@ -75,7 +58,7 @@ impl<'a, A: Asker + Drop, L: Ledger> Oracle<'a, A, L> {
             asker,
             marks,
             steps,
-            examiner: None,
+            checker: Checker::new(alloc),
         })
     }
 
@@ -141,7 +124,7 @@ impl<'a, A: Asker + Drop, L: Ledger> Oracle<'a, A, L> {
         )
     }
 
-    /// The same with the blocks that the derivation gives.
+    /// The same with the blocks that the derivation gives. It is not checked for faults again.
     pub fn design(&mut self, query: &Query, step: &Step) -> Result<Design, Memory>
         requires bounds { in_bounds query.now ≡ true }
         requires yes { verdict_of query.now ≡ Yes step.now }
@@ -151,24 +134,12 @@ impl<'a, A: Asker + Drop, L: Ledger> Oracle<'a, A, L> {
         ensures design { IfOk result (λ design. Meets query.now design.blocks) }
     {
         let derivation = self.derivation(query, step)?;
-        match replay(self.alloc, &derivation, &self.tools) {
-            Ok((_, blocks)) => Ok(Design { derivation, blocks }),
-            Err(ReplayEnd::Memory) => Err(Memory),
-            Err(ReplayEnd::BadLine { .. }) => unreachable!(),
-        }
-    }
-
-    // What the check of an offer needs, which is made at the first one.
-    fn take_examiner(&mut self) -> Result<Examiner, Memory> {
-        match self.examiner.take() {
-            Some(examiner) => Ok(examiner),
-            None => Examiner::open(self.alloc),
-        }
+        let blocks = last_list(self.alloc, derivation.as_slice())?;
+        Ok(Design { derivation, blocks })
     }
 
     /// What the catalogues offer for a question in bounds, of which there are fewer than 4,294,967,296. They are asked as `consult` says, with its
     /// refusals.
-    #[tactic(auto, using(catalogues::proofs::Left::left_refl))]
     pub fn consult(
         &mut self,
         query: &Query,
@@ -181,17 +152,6 @@ impl<'a, A: Asker + Drop, L: Ledger> Oracle<'a, A, L> {
         ensures left { AreLeft (map seen catalogues.old.items) (map seen catalogues.new.items) }
         ensures cause { IfErr result (λ end. HasEnded (map seen catalogues.old.items) (map seen catalogues.new.items) end) }
     {
-        let Ok(mut examiner) = self.take_examiner() else {
-            return Err(ConsultEnd::Memory);
-        };
-        let found = consult(
-            self.alloc,
-            catalogues,
-            query,
-            &examiner.fields,
-            &mut examiner.scratch,
-        );
-        self.examiner = Some(examiner);
-        found
+        consult(self.alloc, catalogues, query, &mut self.checker)
     }
 }

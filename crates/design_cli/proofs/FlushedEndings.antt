@@ -110,21 +110,21 @@ refused_silent (Ok (Workload n)) text lists e = absurd (rules_answer (Workload n
 refused_silent (Ok (Table ask workers)) text lists e = refl
 
 -- a flush that fails leaves the catalogues and the count of lines as they are
-count_settled : (command : Result Command Reason) (text : List ℕ) (after : Option (List ℕ)) (report : Report) (ending : Ending) (count : ℕ) → IsCount command text after report ending count → IsCount command text after report WriteFault count
-count_settled (Err reason) text after report ending count is = is
-count_settled (Ok (On verb q shape)) text after report ending count is = is
-count_settled (Ok Replay) text after report ending count is = is
-count_settled (Ok Batch) text after report ending count is = tt
-count_settled (Ok (Workload n)) text after report ending count is = is
-count_settled (Ok (Table ask workers)) text after report ending count is = is
+count_flushed : (command : Result Command Reason) (text : List ℕ) (after : Option (List ℕ)) (report : Report) (ending : Ending) (count : ℕ) → IsCount command text after report ending count → IsCount command text after report WriteFault count
+count_flushed (Err reason) text after report ending count is = is
+count_flushed (Ok (On verb q shape)) text after report ending count is = is
+count_flushed (Ok Replay) text after report ending count is = is
+count_flushed (Ok Batch) text after report ending count is = tt
+count_flushed (Ok (Workload n)) text after report ending count is = is
+count_flushed (Ok (Table ask workers)) text after report ending count is = is
 
 no_part : (a b : Option (List ℕ)) (bs : List ℕ) → AppendsPart a b bs → bs ≢ []
 no_part a b bs part is = absurd (omega (arith, part.short, ap length is))
 
 -- the answer ends on the output as it did on the buffer, or by the flush that failed
-settled_from : (command : Result Command Reason) (left after : Option (List ℕ)) (old new : List Seen) (ending end : Ending) (a b : Option (List ℕ)) (handed : List ℕ) (r : Result (Unit {0}) Failed)
+flushed_from : (command : Result Command Reason) (left after : Option (List ℕ)) (old new : List Seen) (ending end : Ending) (a b : Option (List ℕ)) (handed : List ℕ) (r : Result (Unit {0}) Failed)
     → Answers command left after old new ending (Some []) (Some handed) → AppendsWhole a b r handed → OnOk r (end ≡ ending) → OnErr r (end ≡ WriteFault) → Answers command left after old new end a b
-settled_from command left after old new ending end a b handed (Ok x) ends on kept failed = subst (λ e. Answers command left after old new e a b) (sym kept) (record {
+flushed_from command left after old new ending end a b handed (Ok x) ends on kept failed = subst (λ e. Answers command left after old new e a b) (sym kept) (record {
   text = ends.text;
   is_input = ends.is_input;
   lists = ends.lists;
@@ -137,7 +137,7 @@ settled_from command left after old new ending end a b handed (Ok x) ends on kep
   usage = ends.usage;
   failed = ends.failed;
 })
-settled_from command left after old new ending end a b handed (Err e) ends on kept failed =
+flushed_from command left after old new ending end a b handed (Err e) ends on kept failed =
     let report = command_report command ends.text ends.lists in
     let part = cut_ends a b handed e on command ends.count report ending ends.ends in
     subst (λ e. Answers command left after old new e a b) (sym failed) (record {
@@ -148,17 +148,17 @@ settled_from command left after old new ending end a b handed (Err e) ends on ke
       are_told = ends.are_told;
       count = ends.count;
       ends = part;
-      is_count = count_settled command ends.text after report ending ends.count ends.is_count;
+      is_count = count_flushed command ends.text after report ending ends.count ends.is_count;
       leaves = λ told are_told. tt;
       usage = (λ u. cc, λ u. absurd (no_part a b (output report) part (refused_silent command ends.text ends.lists u)));
       failed = λ number e. cc;
     })
 
 -- where the buffer was empty at the start
-pub settled_ends : (command : Result Command Reason) (left after : Option (List ℕ)) (old new : List Seen) (ending end : Ending) (a b : Option (List ℕ)) (start handed : List ℕ) (r : Result (Unit {0}) Failed) → start ≡ []
+pub flushed_ends : (command : Result Command Reason) (left after : Option (List ℕ)) (old new : List Seen) (ending end : Ending) (a b : Option (List ℕ)) (start handed : List ℕ) (r : Result (Unit {0}) Failed) → start ≡ []
     → Answers command left after old new ending (Some start) (Some handed) → AppendsWhole a b r handed → OnOk r (end ≡ ending) → OnErr r (end ≡ WriteFault) → Answers command left after old new end a b
-settled_ends command left after old new ending end a b start handed r empty ends on kept failed =
-    settled_from command left after old new ending end a b handed r (subst (λ held. Answers command left after old new ending (Some held) (Some handed)) empty ends) on kept failed
+flushed_ends command left after old new ending end a b start handed r empty ends on kept failed =
+    flushed_from command left after old new ending end a b handed r (subst (λ held. Answers command left after old new ending (Some held) (Some handed)) empty ends) on kept failed
 
 -- a fault that was counted once stays counted
 later_fault : (before mid now : ℕ) → Rose before mid → mid ≤ now → Rose before now
@@ -167,12 +167,12 @@ later_fault before mid now rose later = omega (arith, rose, later)
 first_fault : (before mid now : ℕ) → before ≤ mid → Rose mid now → Rose before now
 first_fault before mid now later rose = grind (arith)
 
-pub settled_fault : (ending end : Ending) (before mid now : ℕ) (r : Result (Unit {0}) Failed) → HasFault ending before mid → HasCause mid now r → OnOk r (end ≡ ending) → OnErr r (end ≡ WriteFault) → HasFault end before now
-settled_fault ending end before mid now (Ok x) fault cause kept failed = record {
+pub flushed_fault : (ending end : Ending) (before mid now : ℕ) (r : Result (Unit {0}) Failed) → HasFault ending before mid → HasCause mid now r → OnOk r (end ≡ ending) → OnErr r (end ≡ WriteFault) → HasFault end before now
+flushed_fault ending end before mid now (Ok x) fault cause kept failed = record {
   later = omega (arith, fault.later, cause.later);
   failed = λ e. later_fault before mid now (fault.failed (sym kept ∙ e)) cause.later;
 }
-settled_fault ending end before mid now (Err e) fault cause kept failed = record {
+flushed_fault ending end before mid now (Err e) fault cause kept failed = record {
   later = omega (arith, fault.later, cause.later);
   failed = λ e. first_fault before mid now fault.later cause.failed;
 }

@@ -3,7 +3,7 @@ pub mod WholeInputs
 pub mod Batches
 pub mod BatchEnds
 pub mod Runnings
-pub mod Settled
+pub mod FlushedEndings
 pub mod ShortBlocks
 pub mod Designed
 mod Samples

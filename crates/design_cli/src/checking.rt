@@ -2,7 +2,6 @@
 ghost use Rattle.std.specs.Prelude.{◌≡◌, ◌≢◌, ◌≤◌, IfOk, length, true, ℕ};
 ghost use Rattle.design_base.specs.Limits.{in_bounds};
 ghost use Rattle.design_base.specs.declared.limits.TheConstants.{INPUT_MAX};
-ghost use Rattle.design_checks.specs.Findings.{finding as finding_of};
 ghost use Rattle.block_texts.specs.BlockText.{block_text};
 ghost use Rattle.design_cli.specs.LineFindings.{IsFoundIn, lines_finding, shortest_line};
 ghost use Rattle.design_cli.specs.Report.{check_report, text_report};
@@ -13,11 +12,10 @@ ghost use Rattle.design_reports.specs.Reports.{found_report};
 use arrays::{ArrayEnd, td_of_rows, td_of_squares};
 use block_texts::{BlockTextEnd, read_blocks};
 use design_base::{INPUT_MAX, Memory, Query};
-use design_checks::{Finding, Scratch, check_bibd, check_df, check_gdd, check_pbd, check_td};
+use design_checks::{Checker, Finding};
 use design_io::{Failed, Sink, Source, read_all};
 use design_lines::Shape;
 use design_reports::{Ending, write_finding};
-use field_tables::Fields;
 use incidence::Rows;
 use std::alloc::Global;
 
@@ -39,25 +37,6 @@ fn answer_finding<K: Sink>(query: &Query, finding: Finding, out: &mut K) -> Endi
     }
 }
 
-// What the check of blocks finds.
-fn found_in_blocks(alloc: Global, query: &Query, blocks: &Rows) -> Result<Finding, Memory>
-    requires { in_bounds query.now ≡ true }
-    ensures { IfOk result (λ found. found ≡ finding_of query.now blocks.now) }
-{
-    let mut scratch = Scratch::new(alloc)?;
-    let finding = match *query {
-        Query::Td { k, n } => check_td(blocks, k, n, &mut scratch),
-        Query::Bibd { v, k, l } => check_bibd(blocks, v, k, l, &mut scratch),
-        Query::Gdd { k, g, u } => check_gdd(blocks, k, g, u, &mut scratch),
-        Query::Pbd { v, s } => check_pbd(blocks, v, s, &mut scratch),
-        Query::Df { group, v, k, l } => {
-            let fields = Fields::open(alloc)?;
-            check_df(blocks, &fields, group, v, k, l, &mut scratch)
-        }
-    };
-    Ok(finding)
-}
-
 // What the check of the blocks that lines stand for finds, or that a line is bad.
 fn found_in_td(
     alloc: Global,
@@ -68,7 +47,7 @@ fn found_in_td(
     ensures { IfOk result (IsFoundIn query.now blocks) }
 {
     match blocks {
-        Ok(blocks) => found_in_blocks(alloc, query, &blocks),
+        Ok(blocks) => Checker::new(alloc).check(query, &blocks),
         Err(ArrayEnd::BadLine { index }) => Ok(Finding::BadBlock { index }),
         Err(ArrayEnd::Memory) => Err(Memory),
     }
@@ -93,7 +72,7 @@ fn found_in_lines(
         }
         _ => {
             lines.sort_each();
-            found_in_blocks(alloc, query, &lines)
+            Checker::new(alloc).check(query, &lines)
         }
     }
 }

@@ -20,7 +20,7 @@ use std::marker::Brand;
 use std::sync::ledger::Ledger;
 
 // How an answer ends once the last bytes were flushed, or could not be.
-fn settled(ending: Ending, end: Result<(), Failed>) -> Ending
+fn flushed_ending(ending: Ending, end: Result<(), Failed>) -> Ending
     ensures kept { OnOk end (result ≡ ending) }
     ensures failed { OnErr end (result ≡ Ending.WriteFault) }
 {
@@ -61,7 +61,7 @@ fn answer_buffered<S: Source, K: Sink, L: Ledger, O: Origin>(
     let mut buffered = Buffered::<K, O>::new(out);
     let ending = answer(alloc, words, input, catalogues, steps, &mut buffered);
     let (end, inner) = flushed(buffered);
-    (settled(ending, end), inner)
+    (flushed_ending(ending, end), inner)
 }
 
 /// Answers the words of a command line as `run` does, but collects the report in a buffer of fixed size, which is written on `out`

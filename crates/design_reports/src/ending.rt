@@ -65,7 +65,7 @@ impl Ending {
         }
     }
 
-    /// How an answer ends that says the verdict.
+    /// How an answer ends that says this verdict and no more: as yes, no or unknown, by the verdict.
     pub fn of_verdict(verdict: &Verdict) -> Ending
         ensures { result ≡ ending_with verdict.now }
     {
@@ -76,7 +76,7 @@ impl Ending {
         }
     }
 
-    /// How an answer ends that says a finding.
+    /// How an answer ends that says this finding: as yes where the blocks are valid, and else as no.
     pub fn of_finding(finding: Finding) -> Ending
         ensures { result ≡ ending_of finding }
     {

@@ -149,7 +149,7 @@ fn write_row<K: Sink>(out: &mut K, printer: &mut RowPrinter, row: &[u16]) -> Res
     write_whole(out, printer.line(row))
 }
 
-/// Writes a word and a number on a line.
+/// Writes a word of 1 to 100 bytes and a number on a line. It is refused where the output fails; a front of the line may stand then.
 pub fn write_counted<K: Sink>(out: &mut K, word: &str, number: u64) -> Result<(), Failed>
     requires started { 0 < length word.now }
     requires short { length word.now ≤ 100 }
@@ -179,7 +179,8 @@ pub fn write_rows<K: Sink>(
     Ok(())
 }
 
-/// Writes the verdict.
+/// Writes a question and its verdict on a line: `yes` with the step, `no` with the criterion, or `unknown`. It is refused where the
+/// output fails; a front of the line may stand then.
 pub fn write_verdict<K: Sink>(out: &mut K, query: &Query, verdict: &Verdict) -> Result<(), Failed>
     ensures bytes { AppendsWhole (K.held out.old) (K.held out.new) result (verdict_text query.now verdict.now) }
     ensures cause { HasCause (K.faults out.old) (K.faults out.new) result }
@@ -187,7 +188,8 @@ pub fn write_verdict<K: Sink>(out: &mut K, query: &Query, verdict: &Verdict) -> 
     write_whole(out, verdict_line(query, verdict).bytes())
 }
 
-/// Writes the two numbers that a criterion compares.
+/// Writes `because` and the two numbers that a criterion compares on a line. It is refused where the output fails; a front of the line
+/// may stand then.
 pub fn write_because<K: Sink>(out: &mut K, first: u32, second: u32) -> Result<(), Failed>
     ensures bytes { AppendsWhole (K.held out.old) (K.held out.new) result (flat_map (λ line. line) (because_texts (Some (first, second)))) }
     ensures cause { HasCause (K.faults out.old) (K.faults out.new) result }
@@ -195,7 +197,8 @@ pub fn write_because<K: Sink>(out: &mut K, first: u32, second: u32) -> Result<()
     write_whole(out, because_line(first, second).bytes())
 }
 
-/// Writes what the check of blocks found.
+/// Writes a question and what the check of blocks found on a line: `valid`, or `invalid` with the bad block or the bad pair. It is
+/// refused where the output fails; a front of the line may stand then.
 pub fn write_finding<K: Sink>(out: &mut K, query: &Query, finding: Finding) -> Result<(), Failed>
     ensures bytes { AppendsWhole (K.held out.old) (K.held out.new) result (finding_text query.now finding) }
     ensures cause { HasCause (K.faults out.old) (K.faults out.new) result }
@@ -203,7 +206,8 @@ pub fn write_finding<K: Sink>(out: &mut K, query: &Query, finding: Finding) -> R
     write_whole(out, finding_line(query, finding).bytes())
 }
 
-/// Writes what the check of an offer found, where that is no design, with the number of its catalogue.
+/// Writes `offer`, the number of a catalogue and what the check of its offer found on a line. It is refused where the output fails; a
+/// front of the line may stand then.
 pub fn write_refused_offer<K: Sink>(
     out: &mut K,
     number: u32,
@@ -215,7 +219,8 @@ pub fn write_refused_offer<K: Sink>(
     write_whole(out, refused_offer_line(number, finding).bytes())
 }
 
-/// Writes that an offer of so many blocks is a design, with the number of its catalogue.
+/// Writes `offer`, the number of a catalogue and that what it offered is a design of so many blocks on a line. It is refused where the
+/// output fails; a front of the line may stand then.
 pub fn write_valid_offer<K: Sink>(out: &mut K, number: u32, blocks: usize) -> Result<(), Failed>
     ensures bytes { AppendsWhole (K.held out.old) (K.held out.new) result (valid_offer_text number blocks) }
     ensures cause { HasCause (K.faults out.old) (K.faults out.new) result }
@@ -223,7 +228,8 @@ pub fn write_valid_offer<K: Sink>(out: &mut K, number: u32, blocks: usize) -> Re
     write_whole(out, valid_offer_line(number, blocks).bytes())
 }
 
-/// Writes the fault of a derivation: the number of its line, and what is wrong with that.
+/// Writes the fault of a derivation on a line: the number of the bad line, and what is wrong with it. It is refused where the output
+/// fails; a front of the line may stand then.
 pub fn write_fault<K: Sink>(out: &mut K, fault: Fault) -> Result<(), Failed>
     ensures bytes { AppendsWhole (K.held out.old) (K.held out.new) result (fault_text fault) }
     ensures cause { HasCause (K.faults out.old) (K.faults out.new) result }
