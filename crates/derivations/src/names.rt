@@ -6,7 +6,8 @@ use smallvec::SmallVec;
 use std::alloc::Global;
 use std::marker::Model;
 
-/// A list of numbers of lines. Up to eight of them stand in the value itself.
+/// The citations of a line: the numbers of the lines that it cites, in the order of the premises. Up to eight of them stand
+/// in the value itself.
 #[derive(Drop)]
 pub struct Names {
     numbers: SmallVec<u64, 8>,

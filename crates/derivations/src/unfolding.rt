@@ -52,7 +52,8 @@ fn unfold<A: Asker, L: Ledger>(
     Ok(())
 }
 
-/// The unfolded verdict: for each premise in order its own lines, and then the line of the question.
+/// The derivation of a question: the lines that lead to a design of it. For each premise of the step in order come the lines
+/// of its own derivation, and then the line of the question, which cites the last line of each.
 ///
 /// The question is in bounds, and its verdict is yes by this step. No line names more than `PREMISES_MAX` others. The answer is
 /// `Memory` only for want of memory. After it too the asker asks the same memo, and where it tells the cells that it knows, it
