@@ -1,22 +1,20 @@
 -- The blocks of three points in which two points stand together twice.
-use Rattle.std.proofs.Common.{Bool, List, [], ap, arith, inl, inr, refl, subst, suc, sym, true, zero, ℕ, ◌%◌, ◌*◌, ◌++◌, ◌+◌, ◌/◌, ◌<◌, ◌==◌, ◌||◌, ◌∙◌, ◌∷◌, ◌≡◌, ◌≢◌, ◌≤◌}
-use Rattle.std.proofs.Math.Nat.{mod-lt}
-use Rattle.counting.proofs.Booleans.{cases_eq, cases_lt, cond-false, cond-true, eq-eqb, ne_eqb}
+use Rattle.std.proofs.Common.{Bool, List, [], ap, arith, inl, inr, refl, subst, suc, sym, true, zero, ℕ, ◌%◌, ◌*◌, ◌++◌, ◌+◌, ◌/◌, ◌<◌, ◌==◌, ◌||◌, ◌∷◌, ◌≡◌, ◌≢◌, ◌≤◌}
+use Rattle.counting.proofs.Booleans.{cases_eq, cond-false, cond-true, eq-eqb, ne_eqb}
 use Rattle.std.proofs.lemmas.Bool.Decides.{nat_tests}
 use Rattle.std.proofs.lemmas.List.Elements.{All-append, All-cons, All-nil}
-use Rattle.std.proofs.lemmas.Nat.{div_below}
 use Rattle.std.specs.Prelude.{All}
 use Rattle.counting.proofs.Ranges.{All-join_below}
 use Rattle.counting.specs.Sums.{join_below}
 use Rattle.design_base.proofs.Canonical.{IsLoose, IsPointSet, design_from_loose, three_set}
 use Rattle.design_base.proofs.Cover.{cover-append}
-use Rattle.design_base.proofs.Places.{place-below, place-zero, place_of}
+use Rattle.design_base.proofs.Places.{place-below, place-zero}
 use Rattle.design_base.specs.Arrays.{place}
 use Rattle.design_base.specs.Blocks.{IsBibd, cover, holds}
 use Rattle.design_base.specs.Canonical.{canonical}
 use Rattle.triple_systems.proofs.Columns.{column_sets, columns_fourth, columns_none, columns_one}
 use Rattle.triple_systems.proofs.IdempotentSquare.{idempotent-self, idempotent_latin}
-use Rattle.triple_systems.proofs.Levels.{by_levels, levels_beyond, levels_next, levels_same, levels_square}
+use Rattle.triple_systems.proofs.Levels.{IsColumns, columns_beside, three_groups, three_groups_more}
 use Rattle.triple_systems.proofs.OrderedPairs.{ordered_level, ordered_above, ordered_level_sets}
 use Rattle.triple_systems.proofs.InfiniteTriples.{infinite_sets, infinite_none, infinite_one, infinite_two}
 use Rattle.triple_systems.specs.Squares.{IsIdempotent, IsLatin, idempotent}
@@ -24,49 +22,16 @@ use Rattle.triple_systems.specs.Double.{double_blocks, double_columns, six_point
 use Rattle.triple_systems.specs.declared.triples.Pairs.TheVariants.{Ordered}
 use Rattle.triple_systems.specs.Triples.{columns, levels, infinite_triples}
 
--- ---- two points of one column stand twice in C, and no others of the three groups do
-pub record IsColumns (n : ℕ) (C : List (List ℕ)) : Type 0 where
-  same : (c d x : ℕ) → c < 3 → d ≡ (c + 1) % 3 → x < n → cover C (place n c x) (place n d x) ≡ 2
-  apart : (c d x y : ℕ) → c < 3 → d < 3 → x < n → y < n → x ≢ y → cover C (place n c x) (place n d y) ≡ 0
-
-module _ (n : ℕ) (op : ℕ → ℕ → ℕ) (square : IsLatin n op) (self : IsIdempotent n op) (pos : 0 < n) (C : List (List ℕ)) (cols : IsColumns n C) where
+module _ (n : ℕ) (op : ℕ → ℕ → ℕ) (square : IsLatin n op) (self : IsIdempotent n op) (pos : 0 < n) (C : List (List ℕ)) (cols : IsColumns n 2 C) where
   abbrev blocks : List (List ℕ)
   blocks = C ++ levels Ordered n op 3
 
-  same_group : (c x y : ℕ) → c < 3 → x < y → y < n → cover blocks (place n c x) (place n c y) ≡ 2
-  unfolding levels
-  same_group c x y k l m = omega (
-    arith,
-    cover-append C (levels Ordered n op 3) (place n c x) (place n c y),
-    cols.apart c c x y k k (omega arith) m (omega arith),
-    levels_same n op 2 (ordered_level n op square self) (ordered_above n op square self) c x y k (omega arith) m (omega arith),
-  )
-
-  next_group : (c x y : ℕ) → c < 3 → x < n → y < n → cover blocks (place n c x) (place n ((c + 1) % 3) y) ≡ 2
-  unfolding levels
-  next_group c x y k l m = elim (cases_eq y x) [
-    | inl e ↦ rw e (omega (
-      arith,
-      cover-append C (levels Ordered n op 3) (place n c x) (place n ((c + 1) % 3) x),
-      cols.same c ((c + 1) % 3) x k refl l,
-      levels_square n op 2 (ordered_level n op square self) (ordered_above n op square self) c x x k l l (sym (self x l)),
-    ))
-    | inr ne ↦ omega (
-      arith,
-      cover-append C (levels Ordered n op 3) (place n c x) (place n ((c + 1) % 3) y),
-      cols.apart c ((c + 1) % 3) x y k (omega arith) l m (omega arith),
-      levels_next n op 2 (ordered_level n op square self) (ordered_above n op square self) c x y k l m (λ e. ne (e ∙ self x l)),
-    )
-  ]
-
-  pub three_groups : (p q : ℕ) → p < q → q < 3 * n → cover blocks p q ≡ 2
-  three_groups = by_levels blocks n 2 pos same_group next_group
-
   -- with all three groups and no more
   pub double_loose : All (IsPointSet (3 * n) (λ s. s ≡ 3)) C → IsLoose blocks (3 * n) (λ s. s ≡ 3) (λ x y. 2)
+  unfolding levels
   double_loose sets = record {
     blocks = All-append (IsPointSet (3 * n) (λ s. s ≡ 3)) C (levels Ordered n op 3) sets (ordered_level_sets n op square self (3 * n) (λ i x l m. place-below n 3 i x l m));
-    pairs = three_groups;
+    pairs = three_groups n op 2 (ordered_level n op square self) (ordered_above n op square self) pos C (columns_beside n op 2 C self cols);
   }
 
   -- and with one point more
@@ -74,29 +39,18 @@ module _ (n : ℕ) (op : ℕ → ℕ → ℕ) (square : IsLatin n op) (self : Is
   unfolding levels
   double_loose_more sets last = record {
     blocks = All-append (IsPointSet (3 * n + 1) (λ s. s ≡ 3)) C (levels Ordered n op 3) sets (ordered_level_sets n op square self (3 * n + 1) (λ i x l m. omega (arith, place-below n 3 i x l m)));
-    pairs = λ p q l m. elim (cases_lt q (3 * n)) [
-      | inl a ↦ three_groups p q l a
-      | inr a ↦ let e : q ≡ place n 3 0 = omega (arith, place-zero n 3) in let f = place_of n p in rw (e, ← f) (ending (p / n) (p % n) (div_below p n 3 pos (omega arith)) (mod-lt p pos))
-    ];
+    pairs = three_groups_more n op 2 (ordered_level n op square self) (ordered_above n op square self) pos C (columns_beside n op 2 C self cols) last;
   }
-    where
-      ending : (c x : ℕ) → c < 3 → x < n → cover blocks (place n c x) (place n 3 0) ≡ 2
-      ending c x k l = omega (
-        arith,
-        cover-append C (levels Ordered n op 3) (place n c x) (place n 3 0),
-        last c x k l,
-        levels_beyond n op 2 (ordered_level n op square self) (ordered_above n op square self) c x 3 0 (omega arith) l pos,
-      )
 
 -- ---- the columns twice, and with the triples of the infinite point
-twice : (n : ℕ) → IsColumns n (columns n n ++ columns n n)
+twice : (n : ℕ) → IsColumns n 2 (columns n n ++ columns n n)
 twice n = record {
   same = λ c d x k e l. omega (arith, cover-append (columns n n) (columns n n) (place n c x) (place n d x), columns_one n n (omega arith) c d x k (omega arith) l);
   apart = λ c d x y k h l m ne. omega (arith, cover-append (columns n n) (columns n n) (place n c x) (place n d y), columns_none n n (omega arith) c d x y l m ne);
 }
 
 module _ (n : ℕ) (pos : 0 < n) where
-  with_infinite : IsColumns n (columns n n ++ infinite_triples n 0 n 3)
+  with_infinite : IsColumns n 2 (columns n n ++ infinite_triples n 0 n 3)
   with_infinite = record {
     same = λ c d x k e l. omega (
       arith,
