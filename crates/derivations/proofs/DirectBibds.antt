@@ -1,8 +1,9 @@
 -- The rules of block designs without premises: a candidate has what its construction needs, and the construction gives the design. A new rule
 -- adds a lemma, and a case each to `direct_can_build` and `direct_meets`.
 use Rattle.std.proofs.Common.{◌≡◌, ◌≢◌, ℕ, ◌+◌, ◌-◌, ◌/◌, ◌%◌, ◌^◌, ◌≤◌, ◌==◌, ◌&&◌, not, true, List, [], ◌∷◌, arith, refl, subst, sym}
+use Rattle.rule_terms.proofs.Tests.{eight_tests, five_tests, six_tests}
 use Rattle.std.specs.Prelude.{nat_lt}
-use Rattle.counting.proofs.Booleans.{both, eqb-true, leb-true}
+use Rattle.counting.proofs.Booleans.{eqb-true, leb-true, ltb-true}
 use Rattle.std.proofs.lemmas.Bool.Decides.{nat_tests}
 use Rattle.counting.specs.Division.{divides}
 use Rattle.counting.specs.Search.{◌<=◌}
@@ -10,7 +11,7 @@ use Rattle.design_base.specs.Blocks.{IsBibd}
 use Rattle.design_base.specs.Canonical.{canonical}
 use Rattle.design_base.specs.Fields.{has_field}
 use Rattle.design_base.specs.Geometries.{point_count}
-use Rattle.design_base.specs.Limits.{in_bounds, within}
+use Rattle.design_base.specs.Limits.{in_bounds}
 use Rattle.design_base.specs.declared.query.Query.{Query}
 use Rattle.design_base.specs.declared.query.Query.TheVariants.{Bibd}
 use Rattle.design_base.specs.declared.rule.Rule.{Rule}
@@ -38,6 +39,7 @@ use Rattle.rule_terms.specs.Terms.{allows, premises_at}
 use Rattle.rule_terms.proofs.Bounds.{bibd_bounds}
 use Rattle.derivations.specs.AllMeet.{AllMeet}
 use Rattle.derivations.specs.DirectBibds.{AreTriples, direct_blocks, CanBuildDirect}
+use Rattle.derivations.proofs.Conditions.{allowed_at}
 use Rattle.derivations.proofs.Sizes.{sized}
 
 -- where there are no block lists, no questions are asked
@@ -54,21 +56,21 @@ module _ (v k l : ℕ) (bounds : in_bounds (Bibd v k l) ≡ true) where
   unfolding bibd_terms allows CanBuildDirect
   whole a b c d e =
       let in_range = bibd_bounds v k l bounds in
-      let size : v ≡ k = let t = (both (k == v) _ e).0 in grind (arith, nat_tests) in
+      let size : v ≡ k = let t = (allowed_at (bibd_terms v k l Whole) (a ∷ b ∷ c ∷ d ∷ []) e).condition in grind (arith, nat_tests) in
       (record { points = in_range.points; covers = in_range.cover }, size)
 
   pairs : Can Pairs
   unfolding bibd_terms allows CanBuildDirect
   pairs a b c d e =
       let in_range = bibd_bounds v k l bounds in
-      let size : 2 ≡ k = let t = (both (k == 2) _ e).0 in grind (arith, nat_tests) in
+      let size : 2 ≡ k = let t = (allowed_at (bibd_terms v k l Pairs) (a ∷ b ∷ c ∷ d ∷ []) e).condition in grind (arith, nat_tests) in
       (record { points = in_range.points; covers = in_range.cover }, size)
 
   omit : Can Omit
   unfolding bibd_terms allows CanBuildDirect
   omit a b c d e =
       let in_range = bibd_bounds v k l bounds in
-      let t = (both (k == v - 1 && 3 <= v && divides (v - 2) l) _ e).0 in
+      let t = (allowed_at (bibd_terms v k l Omit) (a ∷ b ∷ c ∷ d ∷ []) e).condition in
       let size : v - 1 ≡ k = grind (arith, nat_tests) in
       let least : 3 ≤ v = grind (arith, nat_tests) in
       let times : l % (v - 2) ≡ 0 = grind (arith, nat_tests) in
@@ -78,7 +80,7 @@ module _ (v k l : ℕ) (bounds : in_bounds (Bibd v k l) ≡ true) where
   unfolding bibd_terms allows CanBuildDirect
   bose a b c d e =
       let in_range = bibd_bounds v k l bounds in
-      let t = (both (k == 3 && l == 1 && v % 6 == 3) _ e).0 in
+      let t = (allowed_at (bibd_terms v k l Bose) (a ∷ b ∷ c ∷ d ∷ []) e).condition in
       let shape : v % 6 ≡ 3 = grind (arith, nat_tests) in
       let three : 3 ≡ k = grind (arith, nat_tests) in
       let once : 1 ≡ l = grind (arith, nat_tests) in
@@ -88,7 +90,7 @@ module _ (v k l : ℕ) (bounds : in_bounds (Bibd v k l) ≡ true) where
   unfolding bibd_terms allows CanBuildDirect
   skolem a b c d e =
       let in_range = bibd_bounds v k l bounds in
-      let t = (both (k == 3 && l == 1 && v % 6 == 1 && 7 <= v) _ e).0 in
+      let t = (allowed_at (bibd_terms v k l Skolem) (a ∷ b ∷ c ∷ d ∷ []) e).condition in
       let shape : v % 6 ≡ 1 = grind (arith, nat_tests) in
       let three : 3 ≡ k = grind (arith, nat_tests) in
       let once : 1 ≡ l = grind (arith, nat_tests) in
@@ -98,7 +100,7 @@ module _ (v k l : ℕ) (bounds : in_bounds (Bibd v k l) ≡ true) where
   unfolding bibd_terms allows CanBuildDirect
   double a b c d e =
       let in_range = bibd_bounds v k l bounds in
-      let t = (both (k == 3 && l == 2 && v % 3 <= 1 && not (v == 7)) _ e).0 in
+      let t = (allowed_at (bibd_terms v k l Double) (a ∷ b ∷ c ∷ d ∷ []) e).condition in
       let residue : v % 3 ≢ 2 = λ f. grind (arith, nat_tests) in
       let seven : v ≢ 7 = λ f. grind (arith, nat_tests) in
       let three : 3 ≡ k = grind (arith, nat_tests) in
@@ -109,7 +111,7 @@ module _ (v k l : ℕ) (bounds : in_bounds (Bibd v k l) ≡ true) where
   unfolding bibd_terms allows CanBuildDirect
   middle a b c d e =
       let in_range = bibd_bounds v k l bounds in
-      let t = (both (k == 3 && l == 3 && v % 2 == 1) _ e).0 in
+      let t = (allowed_at (bibd_terms v k l Middle) (a ∷ b ∷ c ∷ d ∷ []) e).condition in
       let shape : v % 2 ≡ 1 = grind (arith, nat_tests) in
       let three : 3 ≡ k = grind (arith, nat_tests) in
       let times : 3 ≡ l = grind (arith, nat_tests) in
@@ -119,7 +121,7 @@ module _ (v k l : ℕ) (bounds : in_bounds (Bibd v k l) ≡ true) where
   unfolding bibd_terms allows CanBuildDirect
   ordered a b c d e =
       let in_range = bibd_bounds v k l bounds in
-      let t = (both (k == 3 && l == 6) _ e).0 in
+      let t = (allowed_at (bibd_terms v k l Ordered) (a ∷ b ∷ c ∷ d ∷ []) e).condition in
       let three : 3 ≡ k = grind (arith, nat_tests) in
       let times : 6 ≡ l = grind (arith, nat_tests) in
       record { least = omega (arith, in_range.block); points = in_range.points; shape = tt; three = three; cover = times }
@@ -128,67 +130,47 @@ module _ (v k l : ℕ) (bounds : in_bounds (Bibd v k l) ≡ true) where
   unfolding bibd_terms allows CanBuildDirect
   affine q m c d e =
       let in_range = bibd_bounds v k l bounds in
-      let t = (both (k == q && l == 1 && has_field q && 2 <= m && v == q ^ m) _ (both (within 2 (v / q) m) _ (both (within k k q) _ e).1).1).0 in
-      let all = both (k == q && l == 1 && has_field q && 2 <= m) (v == q ^ m) t in
-      let plane = both (k == q && l == 1 && has_field q) (2 <= m) all.0 in
-      let field = both (k == q && l == 1) (has_field q) plane.0 in
-      let sizes = both (k == q) (l == 1) field.0 in
-      let points : q ^ m ≡ v = sym (eqb-true v (q ^ m) all.1) in
-      let dimension : 2 ≤ m = leb-true 2 m plane.1 in (
-        record { listed = field.1; dimension = omega arith; few = omega (arith, in_range.points) },
-        record { all = points; block = sym (eqb-true k q sizes.0); once = sym (eqb-true l 1 sizes.1) },
+      let tests = five_tests (allowed_at (bibd_terms v k l Affine) (q ∷ m ∷ c ∷ d ∷ []) e).condition in
+      let points : q ^ m ≡ v = sym (eqb-true v (q ^ m) tests.4) in
+      let dimension : 2 ≤ m = leb-true 2 m tests.3 in (
+        record { listed = tests.2; dimension = omega arith; few = omega (arith, in_range.points) },
+        record { all = points; block = sym (eqb-true k q tests.0); once = sym (eqb-true l 1 tests.1) },
       )
 
   projective : Can Projective
   unfolding bibd_terms allows CanBuildDirect
   projective q m c d e =
       let in_range = bibd_bounds v k l bounds in
-      let t = (both (k == q + 1 && l == 1 && has_field q && 2 <= m && v == point_count q m) _ (both (within 2 (v / q) m) _ (both (within (k - 1) (k - 1) q) _ e).1).1).0 in
-      let all = both (k == q + 1 && l == 1 && has_field q && 2 <= m) (v == point_count q m) t in
-      let plane = both (k == q + 1 && l == 1 && has_field q) (2 <= m) all.0 in
-      let field = both (k == q + 1 && l == 1) (has_field q) plane.0 in
-      let sizes = both (k == q + 1) (l == 1) field.0 in
-      let points : point_count q m ≡ v = sym (eqb-true v (point_count q m) all.1) in
-      let dimension : 2 ≤ m = leb-true 2 m plane.1 in (
-        record { listed = field.1; dimension = omega arith; few = omega (arith, in_range.points) },
-        record { all = points; block = sym (eqb-true k (q + 1) sizes.0); once = sym (eqb-true l 1 sizes.1) },
+      let tests = five_tests (allowed_at (bibd_terms v k l Projective) (q ∷ m ∷ c ∷ d ∷ []) e).condition in
+      let points : point_count q m ≡ v = sym (eqb-true v (point_count q m) tests.4) in
+      let dimension : 2 ≤ m = leb-true 2 m tests.3 in (
+        record { listed = tests.2; dimension = omega arith; few = omega (arith, in_range.points) },
+        record { all = points; block = sym (eqb-true k (q + 1) tests.0); once = sym (eqb-true l 1 tests.1) },
       )
 
   unital : Can Unital
   unfolding bibd_terms allows CanBuildDirect
   unital q b c d e =
       let in_range = bibd_bounds v k l bounds in
-      let tested = (both (k == q + 1 && l == 1 && v == q ^ 3 + 1 && 2 <= q && has_field (q ^ 2) && passes_check (Bibd v k l) (unital_blocks q)) _ (both (within (k - 1) (k - 1) q) _ e).1).0 in
-      let listed = (both (k == q + 1 && l == 1 && v == q ^ 3 + 1 && 2 <= q && has_field (q ^ 2)) (passes_check (Bibd v k l) (unital_blocks q)) tested).0 in
-      let order = both (k == q + 1 && l == 1 && v == q ^ 3 + 1 && 2 <= q) (has_field (q ^ 2)) listed in
-      let t = both (k == q + 1 && l == 1 && v == q ^ 3 + 1) (2 <= q) order.0 in
-      let all = both (k == q + 1 && l == 1) (v == q ^ 3 + 1) t.0 in
-      let sizes = both (k == q + 1) (l == 1) all.0 in
-      let points : q ^ 3 + 1 ≡ v = sym (eqb-true v (q ^ 3 + 1) all.1) in (
-        record { order = leb-true 2 q t.1; listed = order.1; points = omega (arith, points, in_range.points) },
-        record { all = points; block = sym (eqb-true k (q + 1) sizes.0); once = sym (eqb-true l 1 sizes.1) },
+      let tests = six_tests (allowed_at (bibd_terms v k l Unital) (q ∷ b ∷ c ∷ d ∷ []) e).condition in
+      let points : q ^ 3 + 1 ≡ v = sym (eqb-true v (q ^ 3 + 1) tests.2) in (
+        record { order = leb-true 2 q tests.3; listed = tests.4; points = omega (arith, points, in_range.points) },
+        record { all = points; block = sym (eqb-true k (q + 1) tests.0); once = sym (eqb-true l 1 tests.1) },
       )
 
   arc : Can Arc
   unfolding bibd_terms allows CanBuildDirect
   arc r s c d e =
       let in_range = bibd_bounds v k l bounds in
-      let tested = (both (k == 2 ^ r && l == 1 && v == arc_size r s && 1 <= r && nat_lt r s && s <= 7 && has_field (2 ^ s) && passes_check (Bibd v k l) (arc_blocks r s)) _
-      (both (within (r + 1) 7 s) _ (both (within 1 6 r) _ e).1).1).0 in
-      let listed = (both (k == 2 ^ r && l == 1 && v == arc_size r s && 1 <= r && nat_lt r s && s <= 7 && has_field (2 ^ s)) (passes_check (Bibd v k l) (arc_blocks r s)) tested).0 in
-      let order = both (k == 2 ^ r && l == 1 && v == arc_size r s && 1 <= r && nat_lt r s) (s <= 7) (both (k == 2 ^ r && l == 1 && v == arc_size r s && 1 <= r && nat_lt r s && s <= 7) (has_field (2 ^ s)) listed).0 in
-      let smaller = both (k == 2 ^ r && l == 1 && v == arc_size r s && 1 <= r) (nat_lt r s) order.0 in
-      let some = both (k == 2 ^ r && l == 1 && v == arc_size r s) (1 <= r) smaller.0 in
-      let all = both (k == 2 ^ r && l == 1) (v == arc_size r s) some.0 in
-      let sizes = both (k == 2 ^ r) (l == 1) all.0 in
-      let points : arc_size r s ≡ v = sym (eqb-true v (arc_size r s) all.1) in (
+      let tests = eight_tests (allowed_at (bibd_terms v k l Arc) (r ∷ s ∷ c ∷ d ∷ []) e).condition in
+      let points : arc_size r s ≡ v = sym (eqb-true v (arc_size r s) tests.2) in (
         record {
-          two_points = leb-true 1 r some.1;
-          smaller = grind (arith, nat_tests);
-          listed = leb-true s 7 order.1;
+          two_points = leb-true 1 r tests.3;
+          smaller = ltb-true r s tests.4;
+          listed = leb-true s 7 tests.5;
           points = omega (arith, points, in_range.points);
         },
-        record { all = points; block = sym (eqb-true k (2 ^ r) sizes.0); once = sym (eqb-true l 1 sizes.1) },
+        record { all = points; block = sym (eqb-true k (2 ^ r) tests.0); once = sym (eqb-true l 1 tests.1) },
       )
 
   -- the others ask for premises, or serve no block designs

@@ -9,7 +9,7 @@ use Rattle.counting.specs.Division.{divides}
 use Rattle.counting.specs.Search.{◌<=◌}
 use Rattle.design_base.specs.Blocks.{IsBibd, IsGdd, across}
 use Rattle.design_base.specs.Canonical.{canonical}
-use Rattle.design_base.specs.Limits.{in_bounds, within}
+use Rattle.design_base.specs.Limits.{in_bounds}
 use Rattle.design_base.specs.declared.query.Query.TheVariants.{Bibd, Gdd, Td as TdQuery}
 use Rattle.design_base.specs.declared.rule.Rule.{Rule}
 use Rattle.design_base.specs.declared.rule.Rule.TheVariants.{Td, Points, GddDelete, Weight, Split}
@@ -25,6 +25,7 @@ use Rattle.rule_terms.specs.Terms.{allows, premises_at}
 use Rattle.rule_terms.proofs.Bounds.{bibd_bounds, gdd_bounds}
 use Rattle.derivations.specs.AllMeet.{AllMeet}
 use Rattle.derivations.specs.GddBlocks.{gdd_blocks, CanBuildGdd}
+use Rattle.derivations.proofs.Conditions.{allowed_at}
 use Rattle.derivations.proofs.Ingredients.{ingredient_design}
 use Rattle.derivations.proofs.Taken.{taken}
 
@@ -37,22 +38,22 @@ module _ (k g u : ℕ) (bounds : in_bounds (Gdd k g u) ≡ true) where
   td : Can Td
   unfolding gdd_terms allows premises_at CanBuildGdd
   td a b c d I e meet =
-      let groups : u ≡ k = eqb-true u k (both (u == k) _ e).0 in
+      let groups : u ≡ k = eqb-true u k (allowed_at (gdd_terms k g u Td) (a ∷ b ∷ c ∷ d ∷ []) e).condition in
       taken (TdQuery k g ∷ []) (CanBuildGdd k g u Td a b c d) I meet (λ A design. (design, sym groups))
 
   points : Can Points
   unfolding gdd_terms allows premises_at CanBuildGdd
   points a b c d I e meet =
-      let one : g ≡ 1 = eqb-true g 1 (both (g == 1) _ e).0 in
+      let one : g ≡ 1 = eqb-true g 1 (allowed_at (gdd_terms k g u Points) (a ∷ b ∷ c ∷ d ∷ []) e).condition in
       taken (Bibd u k 1 ∷ []) (CanBuildGdd k g u Points a b c d) I meet (λ A design. (design, sym one))
 
   delete : Can GddDelete
   unfolding gdd_terms allows premises_at CanBuildGdd
   delete a b c d I e meet =
       let in_range = gdd_bounds k g u bounds in
-      let t = both (g == k - 1) _ e in
-      let group : g ≡ k - 1 = eqb-true g (k - 1) t.0 in
-      let larger = bibd_bounds ((k - 1) * u + 1) k 1 (both (in_bounds (Bibd ((k - 1) * u + 1) k 1)) _ t.1).0 in
+      let t = allowed_at (gdd_terms k g u GddDelete) (a ∷ b ∷ c ∷ d ∷ []) e in
+      let group : g ≡ k - 1 = eqb-true g (k - 1) t.condition in
+      let larger = bibd_bounds ((k - 1) * u + 1) k 1 (both (in_bounds (Bibd ((k - 1) * u + 1) k 1)) _ t.bounded).0 in
       taken (Bibd ((k - 1) * u + 1) k 1 ∷ []) (CanBuildGdd k g u GddDelete a b c d) I meet (λ A design. (
         record {
           two = in_range.least;
@@ -71,12 +72,12 @@ module _ (k g u : ℕ) (bounds : in_bounds (Gdd k g u) ≡ true) where
   unfolding gdd_terms allows premises_at CanBuildGdd
   weights w s c d I e meet =
       let in_range = gdd_bounds k g u bounds in
-      let t = both (2 <= w && divides w g && k <= s && s <= u && (2 <= g / w || nat_lt s u)) _ (both (within k u s) _ (both (within 2 g w) _ e).1).1 in
-      let held = (both (2 <= w && divides w g && k <= s && s <= u) _ t.0).0 in
+      let t = allowed_at (gdd_terms k g u Weight) (w ∷ s ∷ c ∷ d ∷ []) e in
+      let held = (both (2 <= w && divides w g && k <= s && s <= u) _ t.condition).0 in
       let low : 2 ≤ w = grind (arith, nat_tests) in
       let parts : g % w ≡ 0 = grind (arith, nat_tests) in
       let blocks : k ≤ s = grind (arith, nat_tests) in
-      let inner = gdd_bounds k w s (both (in_bounds (Gdd k w s)) _ (both (in_bounds (Gdd s (g / w) u)) _ t.1).1).0 in
+      let inner = gdd_bounds k w s (both (in_bounds (Gdd k w s)) _ (both (in_bounds (Gdd s (g / w) u)) _ t.bounded).1).0 in
       taken (Gdd s (g / w) u ∷ Gdd k w s ∷ []) (CanBuildGdd k g u Weight w s c d) I meet (λ G master D ingredient. record {
         two = in_range.least;
         blocks = omega (arith, in_range.least);
@@ -92,7 +93,7 @@ module _ (k g u : ℕ) (bounds : in_bounds (Gdd k g u) ≡ true) where
   unfolding gdd_terms allows premises_at CanBuildGdd
   splits c b p d I e meet =
       let in_range = gdd_bounds k g u bounds in
-      let t = (both (2 <= c && divides c u && 2 <= u / c) _ (both (within 2 (u / 2) c) _ e).1).0 in
+      let t = (allowed_at (gdd_terms k g u Split) (c ∷ b ∷ p ∷ d ∷ []) e).condition in
       let low : 2 ≤ c = grind (arith, nat_tests) in
       let parts : u % c ≡ 0 = grind (arith, nat_tests) in
       taken (Gdd k (g * c) (u / c) ∷ Gdd k g c ∷ []) (CanBuildGdd k g u Split c b p d) I meet (λ G master D filler. record {

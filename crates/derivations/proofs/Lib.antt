@@ -1,5 +1,6 @@
 pub mod Taken
 pub mod TdBlocks
+pub mod Conditions
 pub mod Sizes
 pub mod DirectBibds
 pub mod MadeBibds

@@ -1,6 +1,7 @@
 -- The rules of block designs with premises: a candidate has what its construction needs, and the construction gives the design. A new rule adds
 -- a lemma, and a case each to `made_can_build` and `made_meets`.
 use Rattle.std.proofs.Common.{◌≡◌, ℕ, ◌+◌, ◌-◌, ◌*◌, ◌/◌, ◌%◌, ◌<◌, ◌≤◌, ◌==◌, ◌&&◌, true, List, [], ◌∷◌, arith, refl, subst}
+use Rattle.rule_terms.proofs.Tests.{four_tests}
 use Rattle.std.specs.Prelude.{nat_lt}
 use Rattle.std.proofs.Math.Nat.{div-add-mod', mul-le-mul_left}
 use Rattle.counting.proofs.Booleans.{both, eqb-true}
@@ -9,7 +10,7 @@ use Rattle.counting.specs.Division.{divides}
 use Rattle.counting.specs.Search.{◌<=◌}
 use Rattle.design_base.specs.Blocks.{IsBibd}
 use Rattle.design_base.specs.Canonical.{canonical}
-use Rattle.design_base.specs.Limits.{in_bounds, within}
+use Rattle.design_base.specs.Limits.{in_bounds}
 use Rattle.design_base.specs.Meets.{Meets}
 use Rattle.design_base.specs.declared.query.Group.{Group}
 use Rattle.design_base.specs.declared.query.Group.TheVariants.{Cyclic, Field}
@@ -33,6 +34,7 @@ use Rattle.rule_terms.specs.Terms.{allows, premises_at}
 use Rattle.rule_terms.proofs.Bounds.{bibd_bounds}
 use Rattle.derivations.specs.AllMeet.{AllMeet}
 use Rattle.derivations.specs.MadeBibds.{made_blocks, CanBuildMade}
+use Rattle.derivations.proofs.Conditions.{allowed_at}
 use Rattle.derivations.proofs.Sizes.{sized}
 use Rattle.derivations.proofs.Taken.{taken}
 
@@ -59,7 +61,7 @@ module _ (v k l : ℕ) (bounds : in_bounds (Bibd v k l) ≡ true) where
   unfolding bibd_terms allows premises_at CanBuildMade
   fill g u c d I e meet =
       let in_range = bibd_bounds v k l bounds in
-      let t = (both (l == 1 && g * u == v && k <= g && k <= u) _ (both (within (v / g) (v / g) u) _ (both (within k (v / k) g) _ e).1).1).0 in
+      let t = (allowed_at (bibd_terms v k l Fill) (g ∷ u ∷ c ∷ d ∷ []) e).condition in
       let points : g * u ≡ v = grind (arith, nat_tests) in
       let once : 1 ≡ l = grind (arith, nat_tests) in
       let groups : (k ≤ g) × (k ≤ u) = grind (arith, nat_tests) in
@@ -79,7 +81,7 @@ module _ (v k l : ℕ) (bounds : in_bounds (Bibd v k l) ≡ true) where
   unfolding bibd_terms allows premises_at CanBuildMade
   fill_one g u c d I e meet =
       let in_range = bibd_bounds v k l bounds in
-      let t = (both (l == 1 && g * u == v - 1 && k <= g && k <= u) _ (both (within ((v - 1) / g) ((v - 1) / g) u) _ (both (within k ((v - 1) / k) g) _ e).1).1).0 in
+      let t = (allowed_at (bibd_terms v k l Fill1) (g ∷ u ∷ c ∷ d ∷ []) e).condition in
       let before : g * u ≡ v - 1 = grind (arith, nat_tests) in
       let points : g * u + 1 ≡ v = omega (arith, before, in_range.least, in_range.block) in
       let once : 1 ≡ l = grind (arith, nat_tests) in
@@ -101,7 +103,7 @@ module _ (v k l : ℕ) (bounds : in_bounds (Bibd v k l) ≡ true) where
   pbd s b c d I e meet =
       let n = (v - 1) / (k - 1) in
       let in_range = bibd_bounds v k l bounds in
-      let t = (both (l == 1 && 3 <= k && divides (k - 1) (v - 1) && 2 <= s && nat_lt (s + 1) n) _ (both (within 2 (n - 2) s) _ e).1).0 in
+      let t = (allowed_at (bibd_terms v k l PbdRule) (s ∷ b ∷ c ∷ d ∷ []) e).condition in
       let once : 1 ≡ l = grind (arith, nat_tests) in
       let whole : (v - 1) % (k - 1) ≡ 0 = grind (arith, nat_tests) in
       let blocks : (2 ≤ s) × (s + 1 < n) = grind (arith, nat_tests) in
@@ -125,7 +127,7 @@ module _ (v k l : ℕ) (bounds : in_bounds (Bibd v k l) ≡ true) where
   unfolding bibd_terms allows premises_at CanBuildMade
   sum i b c d I e meet =
       let in_range = bibd_bounds v k l bounds in
-      let t = (both (1 <= i && 2 * i <= l) _ (both (within 1 (l / 2) i) _ e).1).0 in
+      let t = (allowed_at (bibd_terms v k l Sum) (i ∷ b ∷ c ∷ d ∷ []) e).condition in
       let half : 2 * i ≤ l = grind (arith, nat_tests) in
       taken (Bibd v k i ∷ Bibd v k (l - i) ∷ []) (CanBuildMade v k l Sum i b) I meet (λ A first B second. record {
         two = in_range.least;
@@ -140,17 +142,15 @@ module _ (v k l : ℕ) (bounds : in_bounds (Bibd v k l) ≡ true) where
   unfolding bibd_terms allows premises_at CanBuildMade
   complements a b c d I e meet =
       let in_range = bibd_bounds v k l bounds in
-      let parts = both (nat_lt v (2 * k) && divides (k - 1) (l * (v - 1)) && divides k (v * replication_number v k l) && 1 <= complement_cover v k l) _ e in
-      let some = both (nat_lt v (2 * k) && divides (k - 1) (l * (v - 1)) && divides k (v * replication_number v k l)) (1 <= complement_cover v k l) parts.0 in
-      let count = both (nat_lt v (2 * k) && divides (k - 1) (l * (v - 1))) (divides k (v * replication_number v k l)) some.0 in
-      let whole = both (nat_lt v (2 * k)) (divides (k - 1) (l * (v - 1))) count.0 in
-      let inner = bibd_bounds v (v - k) (complement_cover v k l) (both (in_bounds (Bibd v (v - k) (complement_cover v k l))) _ parts.1).0 in
+      let t = allowed_at (bibd_terms v k l Complement) (a ∷ b ∷ c ∷ d ∷ []) e in
+      let tests = four_tests t.condition in
+      let inner = bibd_bounds v (v - k) (complement_cover v k l) (both (in_bounds (Bibd v (v - k) (complement_cover v k l))) _ t.bounded).0 in
       taken (Bibd v (v - k) (complement_cover v k l) ∷ []) (CanBuildMade v k l Complement a b) I meet (λ A design. record {
         two = in_range.least;
         left = omega (arith, inner.least, in_range.block);
         points = in_range.points;
-        replication = eqb-true (l * (v - 1) % (k - 1)) 0 whole.1;
-        count = eqb-true (v * replication_number v k l % k) 0 count.1;
+        replication = eqb-true (l * (v - 1) % (k - 1)) 0 tests.1;
+        count = eqb-true (v * replication_number v k l % k) 0 tests.2;
         some = omega (arith, inner.some);
         covers = inner.cover;
         design = design;

@@ -7,7 +7,7 @@ use Rattle.std.proofs.lemmas.Bool.Decides.{nat_tests}
 use Rattle.counting.specs.Search.{◌<=◌}
 use Rattle.design_base.specs.Blocks.{IsPbd}
 use Rattle.design_base.specs.Canonical.{canonical}
-use Rattle.design_base.specs.Limits.{in_bounds, within}
+use Rattle.design_base.specs.Limits.{in_bounds}
 use Rattle.design_base.specs.declared.query.Query.TheVariants.{Bibd, Pbd, Td}
 use Rattle.design_base.specs.declared.rule.Rule.{Rule}
 use Rattle.design_base.specs.declared.rule.Rule.TheVariants.{PbdOne, Bibds, Bibdt, PbdDelete, Truncate, Tdfill, Tdfill1}
@@ -23,6 +23,7 @@ use Rattle.rule_terms.specs.Terms.{allows, premises_at}
 use Rattle.rule_terms.proofs.Bounds.{bibd_bounds, pbd_bounds}
 use Rattle.derivations.specs.AllMeet.{AllMeet}
 use Rattle.derivations.specs.PbdBlocks.{pbd_blocks, CanBuildPbd}
+use Rattle.derivations.proofs.Conditions.{allowed_at}
 use Rattle.derivations.proofs.Ingredients.{ingredient_design}
 use Rattle.derivations.proofs.Taken.{taken}
 
@@ -43,7 +44,7 @@ module _ (v s : ℕ) (bounds : in_bounds (Pbd v s) ≡ true) where
   unfolding pbd_terms allows premises_at CanBuildPbd
   one a b c d I e meet =
       let in_range = pbd_bounds v s bounds in
-      let t = (both (v == s || v == s + 1) _ e).0 in
+      let t = (allowed_at (pbd_terms v s PbdOne) (a ∷ b ∷ c ∷ d ∷ []) e).condition in
       let size : (v ≡ s) ⊎ (v ≡ s + 1) = one_of_two s v (grind (arith, nat_tests)) (grind (arith, nat_tests)) in
       taken [] (CanBuildPbd v s PbdOne a b c d) I meet (record { points = in_range.few; covers = omega arith }, size)
 
@@ -103,14 +104,14 @@ module _ (v s : ℕ) (bounds : in_bounds (Pbd v s) ≡ true) where
   truncate : Can Truncate
   unfolding pbd_terms allows premises_at
   truncate t u c d I e meet =
-      let held = (both (s * t + u == v && 2 <= t && 1 <= u && u <= t) _ (both (within (v - s * t) (v - s * t) u) _ (both (within 2 (v / s) t) _ e).1).1).0 in
+      let held = (allowed_at (pbd_terms v s Truncate) (t ∷ u ∷ c ∷ d ∷ []) e).condition in
       truncated_to t u c d I (grind (arith, nat_tests)) (grind (arith, nat_tests)) (grind (arith, nat_tests)) (2 <= u) refl meet
 
   tdfill : Can Tdfill
   unfolding pbd_terms allows premises_at CanBuildPbd
   tdfill t b c d I e meet =
       let in_range = pbd_bounds v s bounds in
-      let held = (both (s * t == v && 2 <= t) _ (both (within (v / s) (v / s) t) _ e).1).0 in
+      let held = (allowed_at (pbd_terms v s Tdfill) (t ∷ b ∷ c ∷ d ∷ []) e).condition in
       let points : s * t ≡ v = grind (arith, nat_tests) in
       let low : 2 ≤ t = grind (arith, nat_tests) in
       taken (Td s t ∷ Pbd t s ∷ []) (CanBuildPbd v s Tdfill t b c d) I meet (λ T td P group. (
@@ -122,7 +123,7 @@ module _ (v s : ℕ) (bounds : in_bounds (Pbd v s) ≡ true) where
   unfolding pbd_terms allows premises_at CanBuildPbd
   tdfill_with_point t c p d I e meet =
       let in_range = pbd_bounds v s bounds in
-      let held = (both (c * t + 1 == v && 2 <= t && s <= c && c <= s + 1) _ (both (within s (s + 1) c) _ (both (within 2 ((v - 1) / s) t) _ e).1).1).0 in
+      let held = (allowed_at (pbd_terms v s Tdfill1) (t ∷ c ∷ p ∷ d ∷ []) e).condition in
       let points : c * t + 1 ≡ v = grind (arith, nat_tests) in
       let low : 2 ≤ t = grind (arith, nat_tests) in
       let least : s ≤ c = grind (arith, nat_tests) in

@@ -7,7 +7,7 @@ use Rattle.counting.specs.Search.{◌<=◌}
 use Rattle.design_base.specs.Blocks.{IsTd}
 use Rattle.design_base.specs.Canonical.{canonical}
 use Rattle.design_base.specs.Fields.{has_field}
-use Rattle.design_base.specs.Limits.{in_bounds, within}
+use Rattle.design_base.specs.Limits.{in_bounds}
 use Rattle.design_base.specs.declared.query.Query.TheVariants.{Td}
 use Rattle.design_base.specs.declared.rule.Rule.{Rule}
 use Rattle.design_base.specs.declared.rule.Rule.TheVariants.{TdOne, Cyclic, Field, Product, Parker, Wilson1, Wilson2}
@@ -20,6 +20,7 @@ use Rattle.rule_terms.specs.Terms.{allows, premises_at}
 use Rattle.rule_terms.proofs.Bounds.{td_bounds}
 use Rattle.derivations.specs.AllMeet.{AllMeet}
 use Rattle.derivations.specs.TdBlocks.{td_blocks, CanBuildTd}
+use Rattle.derivations.proofs.Conditions.{allowed_at}
 use Rattle.derivations.proofs.Taken.{taken}
 
 module _ (k n : ℕ) (bounds : in_bounds (Td k n) ≡ true) where
@@ -32,14 +33,14 @@ module _ (k n : ℕ) (bounds : in_bounds (Td k n) ≡ true) where
   unfolding td_terms allows premises_at CanBuildTd
   one a b c d I e meet =
       let in_range = td_bounds k n bounds in
-      let points : n ≡ 1 = let t = (both (n == 1) _ e).0 in grind (arith, nat_tests) in
+      let points : n ≡ 1 = let t = (allowed_at (td_terms k n TdOne) (a ∷ b ∷ c ∷ d ∷ []) e).condition in grind (arith, nat_tests) in
       taken [] (CanBuildTd k n TdOne a b c d) I meet (record { two_groups = in_range.groups; groups = in_range.narrow }, sym points)
 
   cyclic : Can Cyclic
   unfolding td_terms allows premises_at CanBuildTd
   cyclic a b c d I e meet =
       let in_range = td_bounds k n bounds in
-      let t = (both (2 <= n && k <= 3) _ e).0 in
+      let t = (allowed_at (td_terms k n Cyclic) (a ∷ b ∷ c ∷ d ∷ []) e).condition in
       taken [] (CanBuildTd k n Cyclic a b c d) I meet (record {
         two_groups = in_range.groups;
         columns = grind (arith, nat_tests);
@@ -51,7 +52,7 @@ module _ (k n : ℕ) (bounds : in_bounds (Td k n) ≡ true) where
   unfolding td_terms allows premises_at CanBuildTd
   field a b c d I e meet =
       let in_range = td_bounds k n bounds in
-      let t = both (has_field n) (k <= n + 1) (both (has_field n && k <= n + 1) _ e).0 in
+      let t = both (has_field n) (k <= n + 1) (allowed_at (td_terms k n Field) (a ∷ b ∷ c ∷ d ∷ []) e).condition in
       taken [] (CanBuildTd k n Field a b c d) I meet (record {
         two_groups = in_range.groups;
         groups = in_range.narrow;
@@ -64,7 +65,7 @@ module _ (k n : ℕ) (bounds : in_bounds (Td k n) ≡ true) where
   unfolding td_terms allows premises_at CanBuildTd
   product a b c d I e meet =
       let in_range = td_bounds k n bounds in
-      let t = (both (a * b == n && 2 <= a && a <= b) _ (both (within (n / a) (n / a) b) _ (both (within 2 (n / 2) a) _ e).1).1).0 in
+      let t = (allowed_at (td_terms k n Product) (a ∷ b ∷ c ∷ d ∷ []) e).condition in
       let points : a * b ≡ n = grind (arith, nat_tests) in
       let low : 2 ≤ a = grind (arith, nat_tests) in
       let order : a ≤ b = grind (arith, nat_tests) in
@@ -85,7 +86,7 @@ module _ (k n : ℕ) (bounds : in_bounds (Td k n) ≡ true) where
   unfolding td_terms allows premises_at CanBuildTd
   parker m b c d I e meet =
       let in_range = td_bounds k n bounds in
-      let t = (both (k == 4 && 3 * m + 1 == n && 1 <= m) _ (both (within ((n - 1) / 3) ((n - 1) / 3) m) _ e).1).0 in
+      let t = (allowed_at (td_terms k n Parker) (m ∷ b ∷ c ∷ d ∷ []) e).condition in
       let groups : 4 ≡ k = grind (arith, nat_tests) in
       let points : 3 * m + 1 ≡ n = grind (arith, nat_tests) in
       taken (Td 4 m ∷ []) (CanBuildTd k n Parker m b c d) I meet (λ A inner. (
@@ -98,14 +99,13 @@ module _ (k n : ℕ) (bounds : in_bounds (Td k n) ≡ true) where
   unfolding td_terms allows premises_at CanBuildTd
   wilson_one m t u d I e meet =
       let in_range = td_bounds k n bounds in
-      let c = both (m * t + u == n && 2 <= m && k <= t && 1 <= u && u <= t) _
-      (both (within (n - m * t) (n - m * t) u) _ (both (within k (n / m) t) _ (both (within 2 (n / k) m) _ e).1).1).1 in
-      let held = c.0 in
+      let c = allowed_at (td_terms k n Wilson1) (m ∷ t ∷ u ∷ d ∷ []) e in
+      let held = c.condition in
       let points : m * t + u ≡ n = grind (arith, nat_tests) in
       taken (Td (k + 1) t ∷ Td k m ∷ Td k (m + 1) ∷ Td k u ∷ []) (CanBuildTd k n Wilson1 m t u d) I meet (λ M master A small E large U rest. (
         record {
           two_groups = in_range.groups;
-          groups = (td_bounds (k + 1) t (both (in_bounds (Td (k + 1) t)) _ c.1).0).narrow;
+          groups = (td_bounds (k + 1) t (both (in_bounds (Td (k + 1) t)) _ c.bounded).0).narrow;
           one_symbol = grind (arith, nat_tests);
           some_kept = grind (arith, nat_tests);
           kept = grind (arith, nat_tests);
@@ -122,15 +122,14 @@ module _ (k n : ℕ) (bounds : in_bounds (Td k n) ≡ true) where
   unfolding td_terms allows premises_at CanBuildTd
   wilson_two m t u w I e meet =
       let in_range = td_bounds k n bounds in
-      let c = both (m * t + u + w == n && 2 <= m && k <= m + 2 && k + 1 <= t && 1 <= w && w <= u && u <= t) _
-      (both (within (n - m * t - u) (n - m * t - u) w) _ (both (within ((n - m * t + 1) / 2) t u) _ (both (within (k + 1) (n / m) t) _ (both (within (max 2 (k - 2)) (n / (k + 1)) m) _ e).1).1).1).1 in
-      let held = c.0 in
+      let c = allowed_at (td_terms k n Wilson2) (m ∷ t ∷ u ∷ w ∷ []) e in
+      let held = c.condition in
       let points : m * t + u + w ≡ n = grind (arith, nat_tests) in
       taken (Td (k + 2) t ∷ Td k m ∷ Td k (m + 1) ∷ Td k (m + 2) ∷ Td k u ∷ Td k w ∷ []) (CanBuildTd k n Wilson2 m t u w) I meet
       (λ M master A small E large F larger U first W second. (
         record {
           two_groups = in_range.groups;
-          groups = (td_bounds (k + 2) t (both (in_bounds (Td (k + 2) t)) _ c.1).0).narrow;
+          groups = (td_bounds (k + 2) t (both (in_bounds (Td (k + 2) t)) _ c.bounded).0).narrow;
           few_groups = grind (arith, nat_tests);
           one_symbol = grind (arith, nat_tests);
           first_some_kept = grind (arith, nat_tests);

@@ -19,15 +19,8 @@ seven_tests {a} {b} {c} {d} {f} {g} {h} e =
     let last = both (a && b && c && d && f && g) h e in
     let front = six_tests last.0 in (front.0, front.1, front.2, front.3, front.4, front.5, last.1)
 
--- a condition behind the ranges of one, two, three and four parameters
-pub behind_one : {a b : Bool} → (a && b) ≡ true → b ≡ true
-behind_one {a} {b} e = (both a b e).1
-
-pub behind_two : {a b c : Bool} → (a && (b && c)) ≡ true → c ≡ true
-behind_two {a} {b} {c} e = behind_one (behind_one {a} {b && c} e)
-
-pub behind_three : {a b c d : Bool} → (a && (b && (c && d))) ≡ true → d ≡ true
-behind_three {a} {b} {c} {d} e = behind_two (behind_one {a} {b && (c && d)} e)
-
-pub behind_four : {a b c d f : Bool} → (a && (b && (c && (d && f)))) ≡ true → f ≡ true
-behind_four {a} {b} {c} {d} {f} e = behind_three (behind_one {a} {b && (c && (d && f))} e)
+pub eight_tests : {a b c d f g h i : Bool} → (a && b && c && d && f && g && h && i) ≡ true
+    → (a ≡ true) × (b ≡ true) × (c ≡ true) × (d ≡ true) × (f ≡ true) × (g ≡ true) × (h ≡ true) × (i ≡ true)
+eight_tests {a} {b} {c} {d} {f} {g} {h} {i} e =
+    let last = both (a && b && c && d && f && g && h) i e in
+    let front = seven_tests last.0 in (front.0, front.1, front.2, front.3, front.4, front.5, front.6, last.1)
