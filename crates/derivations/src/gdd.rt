@@ -23,8 +23,8 @@ fn gdd_of_one(
     ensures { IfOk result (λ rows. rows ≡ canonical (gdd_blocks k g u step.now.rule step.now.a step.now.b step.now.c step.now.d (design.now ∷ []))) }
 {
     match step.rule {
-        Rule::Td => canonical_copy(alloc, design),
-        Rule::Points => canonical_copy(alloc, design),
+        Rule::Td => canonical_copy(design),
+        Rule::Points => canonical_copy(design),
         Rule::GddDelete => delete_point(alloc, (k - 1) * u + 1, k, design),
         _ => unreachable!(),
     }

@@ -28,8 +28,8 @@ fn pbd_of_one(alloc: Global, v: u16, s: u16, step: &Step, design: &Rows) -> Resu
     ensures { IfOk result (λ rows. rows ≡ canonical (pbd_blocks v s step.now.rule step.now.a step.now.b step.now.c step.now.d (design.now ∷ []))) }
 {
     match step.rule {
-        Rule::Bibds => canonical_copy(alloc, design),
-        Rule::Bibdt => canonical_copy(alloc, design),
+        Rule::Bibds => canonical_copy(design),
+        Rule::Bibdt => canonical_copy(design),
         Rule::PbdDelete => drop_point(alloc, v + 1, s, design),
         _ => unreachable!(),
     }

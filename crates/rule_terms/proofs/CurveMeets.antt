@@ -1,7 +1,7 @@
 -- The designs on curves meet their questions, so that their lists need no check.
 use Rattle.std.proofs.Common.{Bool, List, ap, arith, false, refl, subst, sym, true, ℕ, ◌&&◌, ◌+◌, ◌-◌, ◌<◌, ◌==◌, ◌^◌, ◌∙◌, ◌≡◌, ◌≤◌}
 use Rattle.rule_terms.proofs.Tests.{five_tests, six_tests}
-use Rattle.counting.proofs.Booleans.{eqb-true, leb-true, ltb-true}
+use Rattle.counting.proofs.Booleans.{both, eqb-true, leb-true, ltb-true}
 use Rattle.std.specs.Prelude.{nat_lt}
 use Rattle.counting.specs.Search.{each_passes, first_in, ◌<=◌}
 use Rattle.counting.specs.Sums.{join_below, list_below}
