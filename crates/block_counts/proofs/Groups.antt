@@ -1,5 +1,6 @@
 -- Group divisible designs: the replication number, the number of blocks, and how many groups a block needs.
 use Rattle.std.proofs.Common.{Bool, List, [], ap, arith, cond, false, get_or, length, mul_comm, refl, suc, sym, true, zero, ℕ, ◌*◌, ◌+◌, ◌-◌, ◌/◌, ◌<◌, ◌==◌, ◌∙◌, ◌∷◌, ◌≡◌, ◌≢◌, ◌≤◌}
+use Rattle.design_base.proofs.Groups.{across-same}
 use Rattle.std.proofs.Math.Nat.{div-mul-le_self, div_self, zero-div, mul-le-mul_left}
 use Rattle.counting.proofs.Booleans.{bool_same, eq-eqb, eqb-true}
 use Rattle.std.proofs.lemmas.Nat.{div-mul-add, div_below, le-div}
@@ -24,10 +25,6 @@ across_or_in g x y = go (x / g == y / g)
     go : (t : Bool) → cond t 0 1 + cond t 1 0 ≡ 1
     go true = refl
     go false = refl
-
-across-same : (g x y : ℕ) → x / g ≡ y / g → across g x y ≡ 0
-unfolding across
-across-same g x y e = ap (λ t. cond t 0 1) (eq-eqb (x / g) (y / g) e)
 
 -- a group has g points
 group_size : (g u j : ℕ) → j < u → sum_below (g * u) (λ y. one (j == y / g)) ≡ g

@@ -12,6 +12,14 @@ blank_line : block_line [] ≡ Some []
 unfolding block_line words_of numbers_of
 blank_line = refl
 
+five_digits : block_line (codes "00001") ≡ Some (1 ∷ [])
+unfolding block_line words_of numbers_of block_number
+five_digits = refl
+
+six_digits : block_line (codes "000001") ≡ None
+unfolding block_line words_of numbers_of block_number
+six_digits = refl
+
 large_number : block_line (codes "1 65536") ≡ None
 unfolding block_line words_of numbers_of block_number
 large_number = refl

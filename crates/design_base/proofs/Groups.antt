@@ -27,7 +27,8 @@ module _ (k : ℕ) (f : ℕ → ℕ) (rises : (i : ℕ) → suc i < k → f i < 
   pub rises_by_one : (j : ℕ) → j < k → f j ≡ j
   rises_by_one j l = omega (arith, climb 0 j j (omega arith) l, climb j (k - 1 - j) (k - 1) (omega arith) (omega arith), below (k - 1) (omega arith))
 
-across-same : (n x y : ℕ) → x / n ≡ y / n → across n x y ≡ 0
+-- two points of one group
+pub across-same : (n x y : ℕ) → x / n ≡ y / n → across n x y ≡ 0
 unfolding across
 across-same n x y e = ap (λ t. cond t 0 1) (eq-eqb (x / n) (y / n) e)
 

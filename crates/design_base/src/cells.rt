@@ -65,7 +65,10 @@ fn gdd_number(k: u16, g: u16, u: u16) -> usize
     pair * (usize::from(POINTS_MAX) - 1) + (usize::from(u) - 2)
 }
 
-/// The number of a question, which is in bounds. No other question in bounds has it.
+/// The number of a question, which is in bounds: it is below `CELLS`, and no other question in bounds has it. The kinds stand one after
+/// another: transversal designs, difference families over the integers and then those over fields, block designs, group divisible and
+/// pairwise balanced designs. Within a kind the numbers of a question are the digits of its number, each counted from its least value,
+/// so that `td k n` has the number (k - 2) * `TD_N_MAX` + n - 1.
 #[tactic(auto, unfolding(crate::specs::Cells::cell_of), using(crate::proofs::Bounds::bounds_laws))]
 pub fn cell_of(q: &Query) -> usize
     requires bounds { is_in_bounds q.now ≡ true }
