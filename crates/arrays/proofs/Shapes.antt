@@ -1,5 +1,5 @@
 -- The first bad line, and the shape of lines none of which is bad.
-use Rattle.std.proofs.Common.{Bool, List, None, Option, Some, [], ap, arith, false, get_or, length, min, not, refl, subst, sym, take, true, ℕ, ◌*◌, ◌+◌, ◌<◌, ◌==◌, ◌&&◌, ◌∙◌, ◌≡◌, ◌≤◌}
+use Rattle.std.proofs.Common.{Bool, List, None, Option, Some, [], ap, arith, false, get_or, length, min, not, refl, subst, sym, take, true, ℕ, ◌*◌, ◌+◌, ◌<◌, ◌==◌, ◌∙◌, ◌≡◌, ◌≤◌}
 use Rattle.std.proofs.Math.Seq.{take-length}
 use Rattle.counting.proofs.Booleans.{and_from, both, eq-eqb, eqb-true, lt-ltb, ltb-true}
 use Rattle.std.proofs.lemmas.Bool.Decides.{nat_tests}

@@ -1,7 +1,6 @@
 -- Sums over the numbers below a bound, and counts as such sums.
-use Rattle.std.proofs.Common.{Bool, List, [], add-one, ap, arith, false, inl, inr, refl, suc, sym, true, zero, ℕ, ◌&&◌, ◌||◌, ◌*◌, ◌++◌, ◌+◌, ◌<◌, ◌==◌, ◌∙◌, ◌≡◌, ◌≢◌, ◌≤◌, ◌⊎◌}
+use Rattle.std.proofs.Common.{Bool, List, [], add-one, ap, arith, false, inl, inr, refl, suc, sym, true, zero, ℕ, ◌*◌, ◌++◌, ◌+◌, ◌<◌, ◌==◌, ◌∙◌, ◌≡◌, ◌≢◌, ◌≤◌, ◌⊎◌}
 use Rattle.counting.proofs.Booleans.{cases_eq, eq-eqb, eqb-true}
-use Rattle.std.proofs.lemmas.Bool.Decides.{nat_tests}
 use Rattle.counting.specs.Sums.{join_below, one, sum_below}
 
 pub sum_below-none : (f : ℕ → ℕ) → sum_below 0 f ≡ 0

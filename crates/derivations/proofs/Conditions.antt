@@ -1,5 +1,5 @@
 -- What the terms of a rule say of a candidate: its condition holds, and its premises are in bounds.
-use Rattle.std.proofs.Common.{◌≡◌, ℕ, Bool, true, false, ◌&&◌, List, [], ◌∷◌}
+use Rattle.std.proofs.Common.{◌≡◌, ℕ, Bool, true, false, List, [], ◌∷◌}
 use Rattle.std.specs.List.{list_all}
 use Rattle.counting.proofs.Booleans.{both}
 use Rattle.design_base.specs.Limits.{in_bounds}

@@ -1,22 +1,17 @@
 -- The rules of block designs without premises: a candidate has what its construction needs, and the construction gives the design. A new rule
 -- adds a lemma, and a case each to `direct_can_build` and `direct_meets`.
-use Rattle.std.proofs.Common.{◌≡◌, ◌≢◌, ℕ, ◌+◌, ◌-◌, ◌/◌, ◌%◌, ◌^◌, ◌≤◌, ◌==◌, ◌&&◌, not, true, List, [], ◌∷◌, arith, refl, subst, sym}
+use Rattle.std.proofs.Common.{◌≡◌, ◌≢◌, ℕ, ◌+◌, ◌-◌, ◌%◌, ◌^◌, ◌≤◌, true, List, [], ◌∷◌, arith, refl, subst, sym}
 use Rattle.rule_terms.proofs.Tests.{eight_tests, five_tests, six_tests}
-use Rattle.std.specs.Prelude.{nat_lt}
 use Rattle.counting.proofs.Booleans.{eqb-true, leb-true, ltb-true}
 use Rattle.std.proofs.lemmas.Bool.Decides.{nat_tests}
-use Rattle.counting.specs.Division.{divides}
-use Rattle.counting.specs.Search.{◌<=◌}
 use Rattle.design_base.specs.Blocks.{IsBibd}
 use Rattle.design_base.specs.Canonical.{canonical}
-use Rattle.design_base.specs.Fields.{has_field}
 use Rattle.design_base.specs.Geometries.{point_count}
 use Rattle.design_base.specs.Limits.{in_bounds}
 use Rattle.design_base.specs.declared.query.Query.{Query}
 use Rattle.design_base.specs.declared.query.Query.TheVariants.{Bibd}
 use Rattle.design_base.specs.declared.rule.Rule.{Rule}
 use Rattle.design_base.specs.declared.rule.Rule.TheVariants.{Whole, Pairs, Omit, Bose, Skolem, Double, Middle, Ordered, Affine, Projective, Unital, Arc}
-use Rattle.design_checks.specs.Findings.{passes_check}
 use Rattle.triple_systems.specs.Bose.{bose_blocks}
 use Rattle.triple_systems.specs.Skolem.{skolem_blocks}
 use Rattle.triple_systems.specs.Double.{double_blocks}

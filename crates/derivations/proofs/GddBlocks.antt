@@ -1,7 +1,6 @@
 -- The rules of group divisible designs: a candidate has what its construction needs, and the construction gives the design. A new rule adds
 -- a lemma, and a case to `gdd_can_build` and to `gdd_meets`.
-use Rattle.std.proofs.Common.{◌≡◌, ℕ, ◌+◌, ◌-◌, ◌*◌, ◌/◌, ◌%◌, ◌≤◌, ◌==◌, ◌&&◌, ◌||◌, true, List, [], ◌∷◌, ◌∙◌, ap, arith, subst, sym}
-use Rattle.std.specs.Prelude.{nat_lt}
+use Rattle.std.proofs.Common.{◌≡◌, ℕ, ◌+◌, ◌-◌, ◌*◌, ◌/◌, ◌%◌, ◌≤◌, ◌&&◌, true, List, [], ◌∷◌, ◌∙◌, ap, arith, subst, sym}
 use Rattle.std.proofs.Math.Nat.{div-add-mod', mul-mod_right}
 use Rattle.counting.proofs.Booleans.{both, eqb-true}
 use Rattle.std.proofs.lemmas.Bool.Decides.{nat_tests}

@@ -1,13 +1,10 @@
 -- The rules of block designs with premises: a candidate has what its construction needs, and the construction gives the design. A new rule adds
 -- a lemma, and a case each to `made_can_build` and `made_meets`.
-use Rattle.std.proofs.Common.{◌≡◌, ℕ, ◌+◌, ◌-◌, ◌*◌, ◌/◌, ◌%◌, ◌<◌, ◌≤◌, ◌==◌, ◌&&◌, true, List, [], ◌∷◌, arith, refl, subst}
+use Rattle.std.proofs.Common.{◌≡◌, ℕ, ◌+◌, ◌-◌, ◌*◌, ◌/◌, ◌%◌, ◌<◌, ◌≤◌, true, List, [], ◌∷◌, arith, refl, subst}
 use Rattle.rule_terms.proofs.Tests.{four_tests}
-use Rattle.std.specs.Prelude.{nat_lt}
 use Rattle.std.proofs.Math.Nat.{div-add-mod', mul-le-mul_left}
 use Rattle.counting.proofs.Booleans.{both, eqb-true}
 use Rattle.std.proofs.lemmas.Bool.Decides.{nat_tests}
-use Rattle.counting.specs.Division.{divides}
-use Rattle.counting.specs.Search.{◌<=◌}
 use Rattle.design_base.specs.Blocks.{IsBibd}
 use Rattle.design_base.specs.Canonical.{canonical}
 use Rattle.design_base.specs.Limits.{in_bounds}

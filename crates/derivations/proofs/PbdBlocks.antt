@@ -1,6 +1,6 @@
 -- The rules of pairwise balanced designs: a candidate has what its construction needs, and the construction gives the design. A new rule adds
 -- a lemma, and a case to `pbd_can_build` and to `pbd_meets`.
-use Rattle.std.proofs.Common.{◌≡◌, ℕ, ◌+◌, ◌-◌, ◌*◌, ◌/◌, ◌≤◌, ◌⊎◌, inl, inr, ◌==◌, ◌&&◌, ◌||◌, Bool, true, false, if◌then◌else◌, List, [], ◌∷◌, None, Some, arith, refl, subst, sym}
+use Rattle.std.proofs.Common.{◌≡◌, ℕ, ◌+◌, ◌-◌, ◌*◌, ◌≤◌, ◌⊎◌, inl, inr, Bool, true, false, if◌then◌else◌, List, [], ◌∷◌, None, Some, arith, refl, subst, sym}
 use Rattle.std.proofs.Math.Nat.{mul_comm}
 use Rattle.counting.proofs.Booleans.{both, cases_eq, leb-true}
 use Rattle.std.proofs.lemmas.Bool.Decides.{nat_tests}

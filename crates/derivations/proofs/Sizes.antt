@@ -1,5 +1,5 @@
 -- Designs under the sizes of a question.
-use Rattle.std.proofs.Common.{◌≡◌, ℕ, List, subst}
+use Rattle.std.proofs.Common.{ℕ, List, subst}
 use Rattle.design_base.specs.Blocks.{IsBibd}
 use Rattle.derivations.specs.Sizes.{HasSizes}
 

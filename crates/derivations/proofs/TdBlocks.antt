@@ -1,6 +1,6 @@
 -- The rules of transversal designs: a candidate has what its construction needs, and the construction gives the design. A new rule adds a
 -- lemma, and a case to `td_can_build` and to `td_meets`.
-use Rattle.std.proofs.Common.{◌≡◌, ℕ, ◌+◌, ◌-◌, ◌*◌, ◌/◌, ◌==◌, ◌&&◌, ◌≤◌, true, List, [], ◌∷◌, arith, max, subst, sym}
+use Rattle.std.proofs.Common.{◌≡◌, ℕ, ◌+◌, ◌-◌, ◌*◌, ◌≤◌, true, List, [], ◌∷◌, arith, subst, sym}
 use Rattle.std.proofs.lemmas.Bool.Decides.{nat_tests}
 use Rattle.counting.proofs.Booleans.{both}
 use Rattle.counting.specs.Search.{◌<=◌}

@@ -1,5 +1,5 @@
 -- The numbers of the verdicts. None of them is 0.
-use Rattle.std.specs.Prelude.{ℕ, ◌+◌, ◌*◌, ◌/◌, ◌%◌, ◌^◌, ◌==◌, nat_lt, ⊤, Bool, ◌&&◌, ◌||◌, List, [], ◌∷◌, if◌then◌else◌, Option, Some, None, find, option_map, option_and_then}
+use Rattle.std.specs.Prelude.{ℕ, ◌+◌, ◌*◌, ◌/◌, ◌%◌, ◌^◌, ◌==◌, nat_lt, ⊤, Bool, ◌&&◌, ◌||◌, List, if◌then◌else◌, Option, Some, None, find, option_map, option_and_then}
 use Rattle.design_base.specs.declared.rule.Rule.{Rule}
 use Rattle.design_base.specs.declared.verdict.Criterion.{Criterion}
 use Rattle.design_base.specs.declared.verdict.Criterion.TheVariants.{Replication}

@@ -1,5 +1,5 @@
 -- Counting the pairs of a row, one number of the row after another.
-use Rattle.std.proofs.Common.{List, [], ap, arith, cond, drop, false, get_or, inl, inr, length, length-drop, refl, set, suc, sym, take, true, Bool, zero, ℕ, ◌&&◌, ◌*◌, ◌+◌, ◌-◌, ◌<◌, ◌==◌, ◌^◌, ◌∙◌, ◌∷◌, ◌≡◌, ◌≤◌, ◌⊎◌, ◌||◌}
+use Rattle.std.proofs.Common.{List, [], ap, arith, cond, drop, false, get_or, inl, inr, length, length-drop, refl, set, suc, sym, take, true, zero, ℕ, ◌&&◌, ◌*◌, ◌+◌, ◌-◌, ◌<◌, ◌==◌, ◌^◌, ◌∙◌, ◌∷◌, ◌≡◌, ◌≤◌, ◌⊎◌, ◌||◌}
 use Rattle.counting.proofs.Booleans.{bool_same, cases_eq, cases_lt, eq-eqb, eqb-true, false_from_ne_true, false≢true, ne_eqb, or_from}
 use Rattle.std.proofs.lemmas.Grind.{get_or-set_at}
 use Rattle.std.proofs.lemmas.List.{drop_all, drop_more, get_or-set_other, length-take-le}

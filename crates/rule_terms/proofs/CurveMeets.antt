@@ -1,18 +1,16 @@
 -- The designs on curves meet their questions, so that their lists need no check.
-use Rattle.std.proofs.Common.{Bool, List, ap, arith, false, refl, subst, sym, true, ℕ, ◌&&◌, ◌+◌, ◌-◌, ◌<◌, ◌==◌, ◌^◌, ◌∙◌, ◌≡◌, ◌≤◌}
+use Rattle.std.proofs.Common.{Bool, List, ap, arith, false, refl, sym, true, ℕ, ◌&&◌, ◌+◌, ◌-◌, ◌<◌, ◌==◌, ◌^◌, ◌∙◌, ◌≡◌, ◌≤◌}
 use Rattle.rule_terms.proofs.Tests.{five_tests, six_tests}
 use Rattle.counting.proofs.Booleans.{both, eqb-true, leb-true, ltb-true}
 use Rattle.std.specs.Prelude.{nat_lt}
-use Rattle.counting.specs.Search.{each_passes, first_in, ◌<=◌}
-use Rattle.counting.specs.Sums.{join_below, list_below}
+use Rattle.counting.specs.Search.{◌<=◌}
 use Rattle.design_base.specs.Blocks.{IsBibd}
 use Rattle.design_base.specs.Canonical.{canonical}
-use Rattle.design_base.specs.Fields.{has_field, modulus_of, moduli}
+use Rattle.design_base.specs.Fields.{has_field}
 use Rattle.design_base.specs.declared.limits.TheConstants.{POINTS_MAX}
 use Rattle.design_base.specs.declared.query.Query.TheVariants.{Bibd}
 use Rattle.design_checks.proofs.Meeting.{passes_meets}
 use Rattle.design_checks.specs.Findings.{passes_check}
-use Rattle.field_tables.proofs.Search.{passes_below}
 use Rattle.plane_curves.proofs.CurveDesigns.{arcs, unitals}
 use Rattle.plane_curves.proofs.ListedArcs.{even_field}
 use Rattle.plane_curves.specs.Conditions.{arc_size}

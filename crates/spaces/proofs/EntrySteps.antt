@@ -1,5 +1,5 @@
 -- Vectors by their entries, and the table of multiples.
-use Rattle.std.proofs.Common.{List, [], ap, ap₂, arith, get_or, drop, inl, inr, length, map, refl, subst, suc, sym, take, zero, ℕ, ◌%◌, ◌*◌, ◌++◌, ◌+◌, ◌-◌, ◌/◌, ◌<◌, ◌∙◌, ◌∷◌, true, ◌≡◌, ◌≢◌, ◌≤◌, ◌^◌}
+use Rattle.std.proofs.Common.{List, [], ap, ap₂, arith, get_or, drop, inl, inr, length, map, subst, suc, sym, take, zero, ℕ, ◌%◌, ◌*◌, ◌++◌, ◌+◌, ◌-◌, ◌/◌, ◌<◌, ◌∙◌, ◌∷◌, true, ◌≡◌, ◌≢◌, ◌≤◌, ◌^◌}
 use Rattle.std.proofs.Math.Nat.{pow-le-pow_right}
 use Rattle.std.proofs.Math.Seq.{drop-cons}
 use Rattle.counting.proofs.Booleans.{cases_eq}

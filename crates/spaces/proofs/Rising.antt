@@ -1,5 +1,5 @@
 -- The lines by their least points: the same lines, and which two points they hold so far.
-use Rattle.std.proofs.Common.{Bool, List, [], ap, arith, cond, false, inl, inr, map, refl, subst, suc, sym, true, zero, ℕ, ◌&&◌, ◌++◌, ◌+◌, ◌<◌, ◌∙◌, ◌∷◌, ◌≡◌, ◌≤◌, ◌⊎◌}
+use Rattle.std.proofs.Common.{List, [], ap, arith, cond, false, inl, inr, map, refl, suc, sym, true, zero, ℕ, ◌++◌, ◌+◌, ◌<◌, ◌∙◌, ◌∷◌, ◌≡◌, ◌≤◌}
 use Rattle.counting.proofs.Booleans.{cases_Bool, cases_eq, le-ltb, lt-ltb}
 use Rattle.std.specs.List.{sum_by}
 use Rattle.std.specs.Prelude.{nat_le, nat_lt}

@@ -1,13 +1,13 @@
 -- The steps of the loops that write rows and blocks: what there is before the first, and what one more adds.
-use Rattle.std.proofs.Common.{List, [], ap, ap₂, arith, get_or, length, map, refl, slice_set, subst, sym, take, ℕ, ◌*◌, ◌++◌, ◌+◌, ◌-◌, ◌<◌, ◌∙◌, ◌∷◌, ◌≡◌, ◌≤◌}
-use Rattle.std.proofs.lemmas.List.{append-nil, append_assoc, length-map, map-append, take_all, take_more_set}
+use Rattle.std.proofs.Common.{List, [], ap, arith, length, map, refl, subst, sym, take, ℕ, ◌*◌, ◌++◌, ◌+◌, ◌-◌, ◌<◌, ◌∙◌, ◌∷◌, ◌≡◌, ◌≤◌}
+use Rattle.std.proofs.lemmas.List.{append-nil, append_assoc, length-map, map-append}
 use Rattle.std.specs.Prelude.{Err, Ok, OnErr, Result}
 use Rattle.std.proofs.Math.Seq.{take-append-add, take-append_seam}
 use Rattle.counting.proofs.Counts.{join_below_more, join_below_none}
 use Rattle.counting.specs.Sums.{join_below, list_below}
 use Rattle.design_base.specs.Arrays.{blocks_of_rows}
 use Rattle.transversal.specs.Constructions.{base_rows, parker_rows, product_row, product_rows, products_of, quadruple, raised, rows_below, translate, translated, translates_below}
-use Rattle.incidence.proofs.RowsAndBlocks.{blocks_of_no_rows, blocks_of_rows_append, blocks_of_rows_next, front_next, image_next}
+use Rattle.incidence.proofs.RowsAndBlocks.{blocks_of_no_rows, blocks_of_rows_append, blocks_of_rows_next}
 use Rattle.transversal.proofs.Translates.{translated_zero}
 
 -- ---- the blocks of rows

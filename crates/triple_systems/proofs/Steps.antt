@@ -1,5 +1,5 @@
 -- How the lists of triples grow: a loop begins with none, and each round appends what the next number gives.
-use Rattle.std.proofs.Common.{[], add-one, ap, refl, ℕ, ◌%◌, ◌++◌, ◌+◌, ◌==◌, ◌∙◌, ◌∷◌, ◌≡◌, ◌≢◌}
+use Rattle.std.proofs.Common.{[], ap, ℕ, ◌%◌, ◌++◌, ◌+◌, ◌==◌, ◌∙◌, ◌∷◌, ◌≡◌, ◌≢◌}
 use Rattle.counting.proofs.Booleans.{cond-false, cond-true, eq-eqb, ne_eqb}
 use Rattle.std.proofs.lemmas.List.{append-nil, append_assoc}
 use Rattle.counting.proofs.Counts.{join_below_more, join_below_none}

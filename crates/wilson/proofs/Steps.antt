@@ -1,6 +1,6 @@
 -- The steps of the loops that write rows: what there is before the first, and what one more adds.
-use Rattle.std.proofs.Common.{List, Some, [], ap, ap₂, arith, drop, get_or, inl, inr, length, map, refl, slice_set, suc, zero, subst, sym, take, ℕ, ◌%◌, ◌*◌, ◌++◌, ◌+◌, ◌-◌, ◌<◌, ◌∙◌, ◌∷◌, ◌≡◌, ◌≢◌, ◌≤◌}
-use Rattle.std.proofs.lemmas.List.{append-nil, append_assoc, length-map, length-take-le, map-append, take_all, take_more, take_more_set}
+use Rattle.std.proofs.Common.{List, Some, [], ap, ap₂, arith, drop, get_or, inl, inr, length, map, refl, slice_set, suc, zero, subst, sym, take, ℕ, ◌*◌, ◌++◌, ◌+◌, ◌-◌, ◌<◌, ◌∙◌, ◌∷◌, ◌≡◌, ◌≢◌, ◌≤◌}
+use Rattle.std.proofs.lemmas.List.{append-nil, append_assoc, length-map, length-take-le, map-append, take_all, take_more}
 use Rattle.std.proofs.lemmas.List.Edits.{length-remove, remove-append_left}
 use Rattle.counting.proofs.Booleans.{cases_lt, cond_above, cond_below}
 use Rattle.std.specs.List.{flat_map, remove}
