@@ -6,7 +6,7 @@ ghost use Rattle.derivations.specs.Marks.{Marks};
 
 use crate::line::{Fault, Line, LineFault};
 use design_base::{Memory, Query, in_bounds, is_same};
-use rule_table::{Tools, is_candidate, premises};
+use rule_table::{Tools, candidate_premises};
 use std::alloc::Global;
 
 // Whether the lines that are named have the premises as their questions, in order and one each.
@@ -71,14 +71,13 @@ fn fault_of_line(
     if !in_bounds(&line.query) {
         return Some(LineFault::OutOfBounds);
     }
-    if !is_candidate(tools, &line.query, &line.step) {
+    let Some(asked) = candidate_premises(tools, &line.query, &line.step) else {
         return Some(LineFault::NotCandidate);
-    }
+    };
     let from = line.from.as_slice();
     if !is_backward(from, i as u64 + 1) {
         return Some(LineFault::ForwardReference);
     }
-    let asked = premises(tools, &line.query, &line.step);
     if !is_answered(lines, from, asked.as_slice()) {
         return Some(LineFault::MissingPremise);
     }

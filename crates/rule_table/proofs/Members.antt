@@ -1,6 +1,7 @@
 -- A step that the table allows is one of the candidates, and the premises behind some parameters.
 use Rattle.std.proofs.Common.{◌≡◌, ℕ, zero, suc, ◌-◌, Bool, true, false, ◌&&◌, List, [], ◌∷◌, ◌++◌, arith, refl, map, length, ap, sym, subst, ◌∙◌}
-use Rattle.std.specs.Prelude.{flat_map, filter, if◌then◌else◌, ◌↔◌}
+use Rattle.std.specs.Prelude.{flat_map, filter, if◌then◌else◌, is_some, ◌↔◌, ◌≤◌, IfSome, None, Option, Some}
+use Rattle.design_base.specs.declared.limits.TheConstants.{PREMISES_MAX}
 use Rattle.std.specs.List.{list_all, AllByRecursion, Contains}
 use Rattle.counting.proofs.Booleans.{both, leb-true}
 use Rattle.std.proofs.lemmas.List.Elements.{Contains-append_left, Contains-append_right}
@@ -17,7 +18,7 @@ use Rattle.smallvec.specs.SmallVec.{SmallVec}
 use Rattle.rule_terms.specs.declared.next.Next.TheVariants.{Parameter, Premises, Nothing}
 use Rattle.rule_terms.specs.Terms.{Terms, when◌asks◌, from◌to◌take◌, choices, allows, premises_at, terms_at}
 use Rattle.rule_terms.specs.Table.{terms}
-use Rattle.rule_table.specs.Candidates.{candidates, serving, is_candidate, premises, four}
+use Rattle.rule_table.specs.Candidates.{FindsPremises, candidates, serving, is_candidate, premises, four}
 use Rattle.rule_terms.specs.Rank.{rank}
 use Rattle.rule_terms.specs.Nexts.{IsNext}
 use Rattle.rule_table.proofs.Each.{each-passing}
@@ -33,51 +34,51 @@ module _ (t : Terms) (xs rest : List ℕ) (low high : ℕ) (h : IsNext (terms_at
   unfolding allows
   further x ys tail e k = (λ i. allows (next-parameter t xs low high h i) (k i)) ∙ (λ i. within low high x && allows (terms_at t (sym e i)) tail)
 
-  pub allows_inside : (x : ℕ) (ys tail : List ℕ) (b : Bool) → ys ≡ xs ++ x ∷ [] → rest ≡ x ∷ tail → within low high x ≡ true → b ≡ allows (terms_at t ys) tail
+  allows_inside : (x : ℕ) (ys tail : List ℕ) (b : Bool) → ys ≡ xs ++ x ∷ [] → rest ≡ x ∷ tail → within low high x ≡ true → b ≡ allows (terms_at t ys) tail
       → b ≡ allows (terms_at t xs) rest
   allows_inside x ys tail b e k w r = r ∙ sym (further x ys tail e k ∙ ap (λ v. v && allows (terms_at t ys) tail) w)
 
-  pub allows_outside : (x : ℕ) (tail : List ℕ) (b : Bool) → rest ≡ x ∷ tail → false ≡ within low high x → b ≡ false → b ≡ allows (terms_at t xs) rest
+  allows_outside : (x : ℕ) (tail : List ℕ) (b : Bool) → rest ≡ x ∷ tail → false ≡ within low high x → b ≡ false → b ≡ allows (terms_at t xs) rest
   allows_outside x tail b k w f =
       f ∙ sym (further x (xs ++ x ∷ []) tail refl k ∙ ap (λ v. v && allows (terms_at t (xs ++ x ∷ [])) tail) (sym w))
 
-  pub allows_later : (x : ℕ) (ys tail : List ℕ) → ys ≡ xs ++ x ∷ [] → rest ≡ x ∷ tail → allows (terms_at t xs) rest ≡ true → allows (terms_at t ys) tail ≡ true
-  allows_later x ys tail e k a = (both (within low high x) (allows (terms_at t ys) tail) (sym (further x ys tail e k) ∙ a)).1
-
-  pub premises_further : (x : ℕ) (ys tail : List ℕ) (ps : List Query) → ys ≡ xs ++ x ∷ [] → rest ≡ x ∷ tail → ps ≡ premises_at (terms_at t ys) tail
+  premises_further : (x : ℕ) (ys tail : List ℕ) (ps : List Query) → ys ≡ xs ++ x ∷ [] → rest ≡ x ∷ tail → ps ≡ premises_at (terms_at t ys) tail
       → ps ≡ premises_at (terms_at t xs) rest
   unfolding premises_at
   premises_further x ys tail ps e k r = r ∙ (λ i. premises_at (terms_at t (e i)) tail) ∙ (λ i. premises_at (sym (next-parameter t xs low high h) i) (sym k i))
 
-module _ (t : Terms) (xs rest : List ℕ) (low high : ℕ) (h : IsNext (terms_at t xs) (Parameter low high)) (e : length rest ≡ 0) where
-  pub allows_short : false ≡ allows (terms_at t xs) rest
-  unfolding allows
-  allows_short = by rest e
-    where
-      by : (rest : List ℕ) → length rest ≡ 0 → false ≡ allows (terms_at t xs) rest
-      by [] e = ap (λ t. allows t []) (sym (next-parameter t xs low high h))
-      by (x ∷ rest) e = absurd (omega (arith, e))
+  pub found_inside : (x : ℕ) (ys tail : List ℕ) (found : Option (SmallVec Query)) → ys ≡ xs ++ x ∷ [] → rest ≡ x ∷ tail → within low high x ≡ true
+      → FindsPremises (terms_at t ys) tail found → FindsPremises (terms_at t xs) rest found
+  found_inside x ys tail None e k w f = sym (allows_inside x ys tail false e k w (sym f))
+  found_inside x ys tail (Some list) e k w f = (sym (allows_inside x ys tail true e k w (sym f.0)), premises_further x ys tail list.items e k f.1, f.2)
 
-  pub premises_short : (ps : List Query) → ps ≡ [] → ps ≡ premises_at (terms_at t xs) rest
-  unfolding premises_at
-  premises_short ps n = n ∙ by rest e
+  pub found_outside : (x : ℕ) (tail : List ℕ) → rest ≡ x ∷ tail → within low high x ≡ false → FindsPremises (terms_at t xs) rest None
+  found_outside x tail k w = sym (allows_outside x tail false k (sym w) refl)
+
+module _ (t : Terms) (xs rest : List ℕ) (low high : ℕ) (h : IsNext (terms_at t xs) (Parameter low high)) (e : length rest ≡ 0) where
+  pub found_short : FindsPremises (terms_at t xs) rest None
+  unfolding allows
+  found_short = by rest e
     where
-      by : (rest : List ℕ) → length rest ≡ 0 → [] ≡ premises_at (terms_at t xs) rest
-      by [] e = ap (λ t. premises_at t []) (sym (next-parameter t xs low high h))
+      by : (rest : List ℕ) → length rest ≡ 0 → allows (terms_at t xs) rest ≡ false
+      by [] e = ap (λ t. allows t []) (next-parameter t xs low high h)
       by (x ∷ rest) e = absurd (omega (arith, e))
 
 module _ (t : Terms) (rest : List ℕ) where
-  pub allows_premises : (list : SmallVec Query) (b : Bool) → IsNext t (Premises list) → b ≡ list_all in_bounds list.items → b ≡ allows t rest
+  allows_premises : (list : SmallVec Query) → IsNext t (Premises list) → allows t rest ≡ list_all in_bounds list.items
   unfolding allows
-  allows_premises list b h e = e ∙ ap (λ t. allows t rest) (sym (next-premises t list h))
+  allows_premises list h = ap (λ t. allows t rest) (next-premises t list h)
 
-  pub allows_nothing : IsNext t Nothing → false ≡ allows t rest
-  unfolding allows
-  allows_nothing h = ap (λ t. allows t rest) (sym (next-nothing t h).1)
-
-  pub premises_premises : (list : SmallVec Query) → IsNext t (Premises list) → list.items ≡ premises_at t rest
+  pub found_premises : (list : SmallVec Query) → IsNext t (Premises list) → list_all in_bounds list.items ≡ true → length list.items ≤ PREMISES_MAX → FindsPremises t rest (Some list)
   unfolding premises_at
-  premises_premises list h = ap (λ t. premises_at t rest) (sym (next-premises t list h))
+  found_premises list h b few = (allows_premises list h ∙ b, ap (λ t. premises_at t rest) (sym (next-premises t list h)), few)
+
+  pub found_unbounded : (list : SmallVec Query) → IsNext t (Premises list) → list_all in_bounds list.items ≡ false → FindsPremises t rest None
+  found_unbounded list h b = allows_premises list h ∙ b
+
+  pub found_nothing : IsNext t Nothing → FindsPremises t rest None
+  unfolding allows
+  found_nothing h = ap (λ t. allows t rest) (next-nothing t h).1
 
 -- elements of lists
 
@@ -176,37 +177,42 @@ module _ (q : Query) (r : Rule) (a b c d : ℕ) (s : Step) (e : step r a b c d �
   unfolding is_candidate
   passes = ap (is_candidate q) (sym e) ∙ (λ i. serves (kind_of q) r && allows (sym (terms_at-none (terms q r)) i) (a ∷ b ∷ c ∷ d ∷ []))
 
-  pub candidate_told : (kind : Kind) (served told : Bool) → kind ≡ kind_of q → served ≡ serves kind r → served ≡ true
+  candidate_told : (kind : Kind) (served told : Bool) → kind ≡ kind_of q → served ≡ serves kind r → served ≡ true
       → told ≡ allows (terms_at (terms q r) []) (a ∷ b ∷ c ∷ d ∷ []) → told ≡ is_candidate q s
   candidate_told kind served told k h y t =
       t ∙ sym (passes ∙ ap (λ v. v && allows (terms_at (terms q r) []) (a ∷ b ∷ c ∷ d ∷ [])) (ap (λ k. serves k r) (sym k) ∙ sym h ∙ y))
 
-  pub candidate_other : (kind : Kind) (served : Bool) → kind ≡ kind_of q → served ≡ serves kind r → served ≡ false → served ≡ is_candidate q s
-  candidate_other kind served k h n = n ∙ sym (passes ∙ ap (λ v. v && allows (terms_at (terms q r) []) (a ∷ b ∷ c ∷ d ∷ [])) (ap (λ k. serves k r) (sym k) ∙ sym h ∙ n))
+  -- a step of another kind
+  pub candidate_other : (kind : Kind) (served : Bool) → kind ≡ kind_of q → served ≡ serves kind r → served ≡ false → is_candidate q s ≡ false
+  candidate_other kind served k h n = passes ∙ ap (λ v. v && allows (terms_at (terms q r) []) (a ∷ b ∷ c ∷ d ∷ [])) (ap (λ k. serves k r) (sym k) ∙ sym h ∙ n)
 
-  member_by : (told : Bool) → in_bounds q ≡ true → IsStep (step r a b c d) → told ≡ is_candidate q s → (told ≡ true) ↔ Contains (candidates q) s
-  member_by told h i t = let m = candidate_is_in q s h (subst IsStep e i) in (λ y. m.0 (sym t ∙ y), λ y. t ∙ m.1 y)
+  -- what is found of the parameters of a step
+  module _ (kind : Kind) (served : Bool) (k : kind ≡ kind_of q) (h : served ≡ serves kind r) (y : served ≡ true) where
+    pub candidate_none : (found : Option (SmallVec Query)) → FindsPremises (terms_at (terms q r) []) (a ∷ b ∷ c ∷ d ∷ []) found → found ≡ None → is_candidate q s ≡ false
+    candidate_none None f e = sym (candidate_told kind served false k h y (sym f))
+    candidate_none (Some list) f e = cc
 
-  pub member_told : (kind : Kind) (served told : Bool) → in_bounds q ≡ true → IsStep (step r a b c d) → kind ≡ kind_of q → served ≡ serves kind r → served ≡ true
-      → told ≡ allows (terms_at (terms q r) []) (a ∷ b ∷ c ∷ d ∷ []) → (told ≡ true) ↔ Contains (candidates q) s
-  member_told kind served told h i k j y t = member_by told h i (candidate_told kind served told k j y t)
+    pub candidate_some : (found : Option (SmallVec Query)) → FindsPremises (terms_at (terms q r) []) (a ∷ b ∷ c ∷ d ∷ []) found → IfSome found (λ list. is_candidate q s ≡ true)
+    candidate_some None f = tt
+    candidate_some (Some list) f = sym (candidate_told kind served true k h y (sym f.0))
 
-  pub member_other : (kind : Kind) (served : Bool) → in_bounds q ≡ true → IsStep (step r a b c d) → kind ≡ kind_of q → served ≡ serves kind r → served ≡ false
-      → (served ≡ true) ↔ Contains (candidates q) s
-  member_other kind served h i k j n = member_by served h i (candidate_other kind served k j n)
-
-  pub candidate_allowed : is_candidate q s ≡ true → allows (terms_at (terms q r) []) (a ∷ b ∷ c ∷ d ∷ []) ≡ true
-  candidate_allowed h = (both (serves (kind_of q) r) (allows (terms_at (terms q r) []) (a ∷ b ∷ c ∷ d ∷ [])) (sym passes ∙ h)).1
-
-  pub premises_told : (ps : List Query) → ps ≡ premises_at (terms_at (terms q r) []) (a ∷ b ∷ c ∷ d ∷ []) → ps ≡ premises q s
+  pub candidate_items : (found : Option (SmallVec Query)) → FindsPremises (terms_at (terms q r) []) (a ∷ b ∷ c ∷ d ∷ []) found → IfSome found (λ list. list.items ≡ premises q s)
   unfolding premises
-  premises_told ps h = h ∙ (λ i. premises_at (terms_at-none (terms q r) i) (a ∷ b ∷ c ∷ d ∷ [])) ∙ ap (premises q) e
+  candidate_items None f = tt
+  candidate_items (Some list) f = f.1 ∙ (λ i. premises_at (terms_at-none (terms q r) i) (a ∷ b ∷ c ∷ d ∷ [])) ∙ ap (premises q) e
 
--- for the functions of the parameters of a step
-pub ruleset allows_laws = (allows_inside, allows_short, allows_premises, allows_nothing)
+  pub candidate_few : (found : Option (SmallVec Query)) → FindsPremises (terms_at (terms q r) []) (a ∷ b ∷ c ∷ d ∷ []) found → IfSome found (λ list. length list.items ≤ PREMISES_MAX)
+  candidate_few None f = tt
+  candidate_few (Some list) f = f.2
 
-pub ruleset candidate_laws = (candidate_told, candidate_other, member_told, member_other)
+-- whether something is found tells whether the step is a candidate
+pub candidate_found : {X : Type 0} (found : Option X) (told candidate : Bool) → told ≡ is_some found → (found ≡ None → candidate ≡ false) → IfSome found (λ x. candidate ≡ true) → told ≡ candidate
+candidate_found None told candidate t n s = t ∙ sym (n refl)
+candidate_found (Some x) told candidate t n s = t ∙ sym s
 
-pub ruleset premises_behind_laws = (allows_later, allows_nothing, premises_further, premises_short, premises_premises)
+pub member_found : (q : Query) (s : Step) (told : Bool) → in_bounds q ≡ true → IsStep s → told ≡ is_candidate q s → (told ≡ true) ↔ Contains (candidates q) s
+member_found q s told h i t = let m = candidate_is_in q s h i in (λ y. m.0 (sym t ∙ y), λ y. t ∙ m.1 y)
 
-pub ruleset premises_laws = (candidate_allowed, premises_told)
+pub ruleset allowed_laws = (found_inside, found_outside, found_short, found_premises, found_unbounded, found_nothing)
+
+pub ruleset candidate_laws = (candidate_none, candidate_some, candidate_items, candidate_few, candidate_other)

@@ -14,7 +14,7 @@ mod turn;
 mod verdicts;
 mod walk;
 
-pub use allowed::{is_candidate, premises};
+pub use allowed::{candidate_premises, is_candidate, premises};
 pub use asker::{Asker, PlainAsker};
 pub use candidates::Candidates;
 pub use evaluation::Evaluation;
