@@ -1,5 +1,6 @@
 -- The cells whose word is not 0, before and after a write; and what was learned when a verdict is noted.
 use Rattle.std.proofs.Common.{◌≡◌, ◌≢◌, ◌⊎◌, ℕ, zero, suc, ◌+◌, ◌<◌, ◌≤◌, List, [], ◌∷◌, length, true, cond, inl, inr, refl, sym, ap, ◌∙◌, subst, ⊎_elim, set, replicate, arith, eq-eqb, ne_eqb}
+use Rattle.sparse_words.proofs.Paging.{zeros_at}
 use Rattle.std.specs.Prelude.{slice_index, Some}
 use Rattle.counting.proofs.Booleans.{cases_eq}
 use Rattle.std.proofs.lemmas.List.{length-replicate, length-set, get_or-set_same, get_or-set_other}
@@ -84,12 +85,6 @@ noted-set ws i m within nonzero = same_cells (noted (set ws i m)) (sets.insert (
       | inl e ↦ own j e
       | inr n ↦ ⊎_elim (λ e. absurd (n e)) (λ k. written_noted (set ws i m) j (subst (λ x. x ≢ 0) (sym (get_or-set_other ws i j m 0 n)) (noted_written ws j k))) (insert_from (noted ws) i j h)
     ]
-
--- a row of zeros
-zeros_at : (n i : ℕ) → slice_index (replicate n 0) i ≡ 0
-zeros_at zero i = refl
-zeros_at (suc n) zero = refl
-zeros_at (suc n) (suc i) = zeros_at n i
 
 pub none_noted : (n : ℕ) (ws : List ℕ) → ws ≡ replicate n 0 → noted ws ≡ sets.empty
 none_noted n ws is =
