@@ -7,7 +7,7 @@ use Rattle.design_base.specs.Limits.{in_bounds}
 use Rattle.design_base.specs.declared.query.Query.TheVariants.{Bibd}
 use Rattle.design_base.specs.declared.rule.Rule.{Rule}
 use Rattle.rule_terms.specs.BibdTerms.{bibd_terms}
-use Rattle.rule_terms.specs.Terms.{allows, premises_at}
+use Rattle.rule_terms.specs.RuleTree.{allows, premises_at}
 use Rattle.derivations.specs.AllMeet.{AllMeet}
 use Rattle.derivations.specs.BibdBlocks.{bibd_blocks, CanBuildBibd}
 use Rattle.derivations.proofs.DirectBibds.{direct_can_build, direct_meets}

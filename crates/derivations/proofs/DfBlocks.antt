@@ -15,7 +15,7 @@ use Rattle.difference_sets.proofs.StepsMeet.{tested_law}
 use Rattle.difference_sets.specs.FamilySteps.{family_applies, is_family_step, is_stated, is_tested_step}
 use Rattle.difference_sets.specs.Listed.{families}
 use Rattle.rule_terms.specs.DfTerms.{df_terms}
-use Rattle.rule_terms.specs.Terms.{allows, premises_at}
+use Rattle.rule_terms.specs.RuleTree.{allows, premises_at}
 use Rattle.derivations.specs.AllMeet.{AllMeet}
 use Rattle.derivations.specs.DfBlocks.{df_blocks, CanBuildDf}
 use Rattle.derivations.proofs.Taken.{taken}

@@ -30,7 +30,7 @@ use Rattle.gdd_pbd.specs.Basic.{omit_blocks, pair_blocks, whole_blocks}
 use Rattle.gdd_pbd.proofs.BasicDesigns.{pairs_is_bibd, whole_is_bibd}
 use Rattle.gdd_pbd.proofs.Complements.{omit_is_bibd}
 use Rattle.rule_terms.specs.BibdTerms.{bibd_terms}
-use Rattle.rule_terms.specs.Terms.{allows, premises_at}
+use Rattle.rule_terms.specs.RuleTree.{allows, premises_at}
 use Rattle.rule_terms.proofs.Bounds.{bibd_bounds}
 use Rattle.derivations.specs.AllMeet.{AllMeet}
 use Rattle.derivations.specs.DirectBibds.{AreTriples, direct_blocks, CanBuildDirect}

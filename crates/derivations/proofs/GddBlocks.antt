@@ -20,7 +20,7 @@ use Rattle.gdd_pbd.proofs.Deleted.{delete_is_gdd}
 use Rattle.gdd_pbd.proofs.Filled.{split_is_gdd}
 use Rattle.gdd_pbd.proofs.Weighted.{weight_is_gdd}
 use Rattle.rule_terms.specs.GddTerms.{gdd_terms}
-use Rattle.rule_terms.specs.Terms.{allows, premises_at}
+use Rattle.rule_terms.specs.RuleTree.{allows, premises_at}
 use Rattle.rule_terms.proofs.Bounds.{bibd_bounds, gdd_bounds}
 use Rattle.derivations.specs.AllMeet.{AllMeet}
 use Rattle.derivations.specs.GddBlocks.{gdd_blocks, CanBuildGdd}

@@ -27,7 +27,7 @@ use Rattle.gdd_pbd.proofs.FromPbd.{from_pbd_is_bibd}
 use Rattle.gdd_pbd.proofs.FromPbdNeeds.{first_can, second_can}
 use Rattle.gdd_pbd.specs.Conditions.{CanPbdToBibd}
 use Rattle.rule_terms.specs.BibdTerms.{bibd_terms}
-use Rattle.rule_terms.specs.Terms.{allows, premises_at}
+use Rattle.rule_terms.specs.RuleTree.{allows, premises_at}
 use Rattle.rule_terms.proofs.Bounds.{bibd_bounds}
 use Rattle.derivations.specs.AllMeet.{AllMeet}
 use Rattle.derivations.specs.MadeBibds.{made_blocks, CanBuildMade}

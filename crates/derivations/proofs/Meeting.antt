@@ -9,7 +9,7 @@ use Rattle.design_base.specs.declared.query.Query.{Query}
 use Rattle.design_base.specs.declared.query.Query.TheVariants.{Td, Df, Bibd, Gdd, Pbd}
 use Rattle.rule_table.specs.Candidates.{is_candidate, premises, four}
 use Rattle.rule_terms.specs.Table.{terms}
-use Rattle.rule_terms.specs.Terms.{allows}
+use Rattle.rule_terms.specs.RuleTree.{allows}
 use Rattle.derivations.specs.AllMeet.{AllMeet}
 use Rattle.derivations.specs.Blocks.{blocks, built, CanBuild}
 use Rattle.derivations.proofs.BibdBlocks.{bibd_can_build, bibd_meets}

@@ -19,7 +19,7 @@ use Rattle.gdd_pbd.proofs.Filled.{td_fill_is_pbd}
 use Rattle.gdd_pbd.proofs.FilledWithPoint.{td_fill_with_point_is_pbd}
 use Rattle.gdd_pbd.proofs.Truncated.{truncate_is_pbd}
 use Rattle.rule_terms.specs.PbdTerms.{pbd_terms}
-use Rattle.rule_terms.specs.Terms.{allows, premises_at}
+use Rattle.rule_terms.specs.RuleTree.{allows, premises_at}
 use Rattle.rule_terms.proofs.Bounds.{bibd_bounds, pbd_bounds}
 use Rattle.derivations.specs.AllMeet.{AllMeet}
 use Rattle.derivations.specs.PbdBlocks.{pbd_blocks, CanBuildPbd}

@@ -16,7 +16,7 @@ use Rattle.rule_table.specs.Candidates.{candidates, is_candidate, premises}
 use Rattle.rule_terms.specs.Rank.{rank}
 use Rattle.rule_terms.specs.Table.{terms}
 use Rattle.rule_terms.specs.TdTerms.{td_terms}
-use Rattle.rule_terms.specs.Terms.{choices, allows, premises_at}
+use Rattle.rule_terms.specs.RuleTree.{choices, allows, premises_at}
 use Rattle.rule_table.specs.Verdicts.{judged, verdict, verdict_below}
 use Rattle.transversal.specs.Constructions.{cyclic_row, cyclic_rows, rows_below}
 use Rattle.derivations.specs.Blocks.{blocks, built}

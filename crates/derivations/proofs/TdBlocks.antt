@@ -16,7 +16,7 @@ use Rattle.transversal.proofs.Designs.{one_design, cyclic_design, field_design, 
 use Rattle.wilson.specs.Truncations.{wilson_one_blocks, wilson_two_blocks}
 use Rattle.wilson.proofs.Designs.{wilson_one_design, wilson_two_design}
 use Rattle.rule_terms.specs.TdTerms.{td_terms}
-use Rattle.rule_terms.specs.Terms.{allows, premises_at}
+use Rattle.rule_terms.specs.RuleTree.{allows, premises_at}
 use Rattle.rule_terms.proofs.Bounds.{td_bounds}
 use Rattle.derivations.specs.AllMeet.{AllMeet}
 use Rattle.derivations.specs.TdBlocks.{td_blocks, CanBuildTd}

@@ -7,7 +7,7 @@ use std::process::Abort;
 use std::test::Fail;
 
 // The geometry of dimension `d` over the field of `q` elements has `v` points and so many lines.
-#[tactic(auto, unfolding(rule_table::specs::Candidates::premises, rule_terms::specs::Table::terms, rule_terms::specs::BibdTerms::bibd_terms, rule_terms::specs::Terms::premises_at))]
+#[tactic(auto, unfolding(rule_table::specs::Candidates::premises, rule_terms::specs::Table::terms, rule_terms::specs::BibdTerms::bibd_terms, rule_terms::specs::RuleTree::premises_at))]
 fn assert_lines(
     rt: &impl Abort,
     alloc: Global,

@@ -13,31 +13,31 @@ use Rattle.design_base.specs.Limits.{in_bounds}
 use Rattle.design_base.specs.Steps.{Step, step, step_with}
 use Rattle.counting.proofs.Upward.{upward-cons, upward-none}
 use Rattle.smallvec.specs.SmallVec.{SmallVec}
-use Rattle.rule_terms.specs.declared.next.Next.{Next}
-use Rattle.rule_terms.specs.declared.next.Next.TheVariants.{Parameter, Premises, Nothing}
-use Rattle.rule_terms.specs.Terms.{Terms, when◌asks◌, from◌to◌take◌, choices, terms_at}
+use Rattle.rule_terms.specs.declared.branch.Branch.{Branch}
+use Rattle.rule_terms.specs.declared.branch.Branch.TheVariants.{Parameter, Premises, Nothing}
+use Rattle.rule_terms.specs.RuleTree.{RuleTree, when◌asks◌, from◌to◌take◌, choices, terms_at}
 use Rattle.rule_terms.specs.Table.{terms}
-use Rattle.rule_terms.specs.Nexts.{IsNext}
+use Rattle.rule_terms.specs.Branches.{IsBranch}
 use Rattle.rule_table.specs.Candidates.{serving}
 use Rattle.rule_table.specs.Walks.{head, choices_after, steps_under, steps_between, steps_behind, steps_by, steps_of, steps_after, rules_after}
 
 -- what the terms are, by what they say first
 
-pub terms_at-none : (t : Terms) → terms_at t [] ≡ t
+pub terms_at-none : (t : RuleTree) → terms_at t [] ≡ t
 terms_at-none (when c asks ps) = refl
 terms_at-none (from a to b take f) = refl
 
-pub next-parameter : (t : Terms) (xs : List ℕ) (low high : ℕ) → IsNext (terms_at t xs) (Parameter low high)
+pub next-parameter : (t : RuleTree) (xs : List ℕ) (low high : ℕ) → IsBranch (terms_at t xs) (Parameter low high)
     → terms_at t xs ≡ (from low to high take (λ x. terms_at t (xs ++ x ∷ [])))
 next-parameter (when c asks ps) xs low high h = absurd h
 next-parameter (from a to b take f) [] low high h = λ i. from sym h.0 i to sym h.1 i take (λ x. sym (terms_at-none (f x)) i)
 next-parameter (from a to b take f) (y ∷ ys) low high h = next-parameter (f y) ys low high h
 
-pub next-premises : (t : Terms) (list : SmallVec Query) → IsNext t (Premises list) → t ≡ (when true asks list.items)
+pub next-premises : (t : RuleTree) (list : SmallVec Query) → IsBranch t (Premises list) → t ≡ (when true asks list.items)
 next-premises (when c asks ps) list h = λ i. when h.0 i asks sym h.1 i
 next-premises (from a to b take f) list h = absurd h
 
-pub next-nothing : (t : Terms) → IsNext t Nothing → (ps : List Query) × (t ≡ (when false asks ps))
+pub next-nothing : (t : RuleTree) → IsBranch t Nothing → (ps : List Query) × (t ≡ (when false asks ps))
 next-nothing (when c asks ps) h = (ps, λ i. when h i asks ps)
 next-nothing (from a to b take f) h = absurd h
 
@@ -67,13 +67,13 @@ module _ (q : Query) (r : Rule) (xs : List ℕ) where
       parts (λ ys. step_with r (xs ++ ys)) (λ x. choices (terms_at (terms q r) (xs ++ x ∷ []))) (upward low high)
       ∙ (λ i. flat_map (λ x. map (λ ys. step_with r (sym (append_assoc xs (x ∷ []) ys) i)) (choices (terms_at (terms q r) (xs ++ x ∷ [])))) (upward low high))
 
-  pub under_parameter : (low high : ℕ) (o : Option Step) → IsNext (terms_at (terms q r) xs) (Parameter low high) → o ≡ head (steps_between q r xs low high)
+  pub under_parameter : (low high : ℕ) (o : Option Step) → IsBranch (terms_at (terms q r) xs) (Parameter low high) → o ≡ head (steps_between q r xs low high)
       → o ≡ head (steps_under q r xs)
   unfolding steps_under choices
   under_parameter low high o h e =
       e ∙ ap head (sym (ap (λ t. map (λ ys. step_with r (xs ++ ys)) (choices t)) (next-parameter (terms q r) xs low high h) ∙ between-parts low high))
 
-  under-premises : (list : SmallVec Query) → IsNext (terms_at (terms q r) xs) (Premises list)
+  under-premises : (list : SmallVec Query) → IsBranch (terms_at (terms q r) xs) (Premises list)
       → head (steps_under q r xs) ≡ (if list_all in_bounds list.items then Some (step_with r xs) else None)
   unfolding steps_under choices
   under-premises list h =
@@ -83,14 +83,14 @@ module _ (q : Query) (r : Rule) (xs : List ℕ) where
       by true = ap (λ zs. Some (step_with r zs)) (append-nil xs)
       by false = refl
 
-  pub under_inside : (list : SmallVec Query) (s : Step) → IsNext (terms_at (terms q r) xs) (Premises list) → true ≡ list_all in_bounds list.items → s ≡ step_with r xs
+  pub under_inside : (list : SmallVec Query) (s : Step) → IsBranch (terms_at (terms q r) xs) (Premises list) → true ≡ list_all in_bounds list.items → s ≡ step_with r xs
       → Some s ≡ head (steps_under q r xs)
   under_inside list s h e k = ap (λ (s : Step). Some s) k ∙ sym (under-premises list h ∙ ap (λ b. if b then Some (step_with r xs) else None) (sym e))
 
-  pub under_outside : (list : SmallVec Query) → IsNext (terms_at (terms q r) xs) (Premises list) → false ≡ list_all in_bounds list.items → None ≡ head (steps_under q r xs)
+  pub under_outside : (list : SmallVec Query) → IsBranch (terms_at (terms q r) xs) (Premises list) → false ≡ list_all in_bounds list.items → None ≡ head (steps_under q r xs)
   under_outside list h e = sym (under-premises list h ∙ ap (λ b. if b then Some (step_with r xs) else None) (sym e))
 
-  pub under_nothing : IsNext (terms_at (terms q r) xs) Nothing → None ≡ head (steps_under q r xs)
+  pub under_nothing : IsBranch (terms_at (terms q r) xs) Nothing → None ≡ head (steps_under q r xs)
   unfolding steps_under choices
   under_nothing h = ap (λ t. head (map (λ ys. step_with r (xs ++ ys)) (choices t))) (sym (next-nothing (terms_at (terms q r) xs) h).1)
 
@@ -114,7 +114,7 @@ module _ (q : Query) (r : Rule) (xs : List ℕ) where
   unfolding steps_between
   between_over low high o i h = sym (i ∙ ap (λ us. head (flat_map (λ x. steps_under q r (xs ++ x ∷ [])) us)) (upward-none low high h))
 
-  behind-front : (low high x : ℕ) (rest : List ℕ) → IsNext (terms_at (terms q r) xs) (Parameter low high)
+  behind-front : (low high x : ℕ) (rest : List ℕ) → IsBranch (terms_at (terms q r) xs) (Parameter low high)
       → steps_behind q r xs (x ∷ rest) ≡ steps_behind q r (xs ++ x ∷ []) rest ++ steps_between q r xs (x + 1) high
   unfolding steps_behind choices_after
   behind-front low high x rest h =
@@ -125,13 +125,13 @@ module _ (q : Query) (r : Rule) (xs : List ℕ) where
       ∙ (λ i. map-map (λ ys. step_with r (xs ++ ys)) (λ ys. x ∷ ys) own i ++ between-parts (x + 1) high i)
       ∙ (λ i. map (λ ys. step_with r (sym (append_assoc xs (x ∷ []) ys) i)) own ++ steps_between q r xs (x + 1) high)
 
-  pub behind_found : (low high x : ℕ) (ys rest tail : List ℕ) (s : Step) → IsNext (terms_at (terms q r) xs) (Parameter low high) → ys ≡ xs ++ x ∷ [] → rest ≡ x ∷ tail
+  pub behind_found : (low high x : ℕ) (ys rest tail : List ℕ) (s : Step) → IsBranch (terms_at (terms q r) xs) (Parameter low high) → ys ≡ xs ++ x ∷ [] → rest ≡ x ∷ tail
       → Some s ≡ head (steps_behind q r ys tail) → Some s ≡ head (steps_behind q r xs rest)
   behind_found low high x ys rest tail s h k l e =
       sym (ap (λ l. head (steps_behind q r xs l)) l ∙ ap head (behind-front low high x tail h)
       ∙ head-found (steps_behind q r (xs ++ x ∷ []) tail) (steps_between q r xs (x + 1) high) s (ap (λ ys. head (steps_behind q r ys tail)) (sym k) ∙ sym e))
 
-  pub behind_passed : (low high x : ℕ) (ys rest tail : List ℕ) (o : Option Step) → IsNext (terms_at (terms q r) xs) (Parameter low high) → ys ≡ xs ++ x ∷ [] → rest ≡ x ∷ tail
+  pub behind_passed : (low high x : ℕ) (ys rest tail : List ℕ) (o : Option Step) → IsBranch (terms_at (terms q r) xs) (Parameter low high) → ys ≡ xs ++ x ∷ [] → rest ≡ x ∷ tail
       → None ≡ head (steps_behind q r ys tail) → o ≡ head (steps_between q r xs (x + 1) high) → o ≡ head (steps_behind q r xs rest)
   behind_passed low high x ys rest tail o h k l e i =
       i ∙ sym (ap (λ l. head (steps_behind q r xs l)) l ∙ ap head (behind-front low high x tail h)
@@ -141,17 +141,17 @@ module _ (q : Query) (r : Rule) (xs : List ℕ) where
   unfolding steps_behind choices_after
   behind_none [] o e n = n ∙ by (terms_at (terms q r) xs)
     where
-      by : (t : Terms) → None ≡ head (map (λ ys. step_with r (xs ++ ys)) (choices_after t []))
+      by : (t : RuleTree) → None ≡ head (map (λ ys. step_with r (xs ++ ys)) (choices_after t []))
       by (when c asks ps) = refl
       by (from low to high take f) = refl
   behind_none (x ∷ rest) o e n = absurd (omega (arith, e))
 
   -- where no parameter is left
-  pub behind_over : (n : Next) (rest : List ℕ) → IsNext (terms_at (terms q r) xs) n → ((low high : ℕ) → n ≡ Parameter low high → ⊥) → None ≡ head (steps_behind q r xs rest)
+  pub behind_over : (n : Branch) (rest : List ℕ) → IsBranch (terms_at (terms q r) xs) n → ((low high : ℕ) → n ≡ Parameter low high → ⊥) → None ≡ head (steps_behind q r xs rest)
   unfolding steps_behind choices_after
   behind_over n rest = by (terms_at (terms q r) xs) n
     where
-      by : (t : Terms) (n : Next) → IsNext t n → ((low high : ℕ) → n ≡ Parameter low high → ⊥) → None ≡ head (map (λ ys. step_with r (xs ++ ys)) (choices_after t rest))
+      by : (t : RuleTree) (n : Branch) → IsBranch t n → ((low high : ℕ) → n ≡ Parameter low high → ⊥) → None ≡ head (map (λ ys. step_with r (xs ++ ys)) (choices_after t rest))
       by (when c asks ps) n h other = refl
       by (from a to b take f) (Parameter low high) h other = absurd (other low high refl)
       by (from a to b take f) (Premises list) h other = absurd h

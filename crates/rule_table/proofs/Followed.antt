@@ -13,7 +13,7 @@ use Rattle.design_base.specs.Rules.{rules, number_of_rule, serves, kind_of, titl
 use Rattle.design_base.specs.Limits.{in_bounds}
 use Rattle.design_base.specs.Steps.{Step, step_with}
 use Rattle.counting.proofs.Upward.{upward-cons, upward-none}
-use Rattle.rule_terms.specs.Terms.{Terms, when◌asks◌, from◌to◌take◌, choices}
+use Rattle.rule_terms.specs.RuleTree.{RuleTree, when◌asks◌, from◌to◌take◌, choices}
 use Rattle.rule_terms.specs.Table.{terms}
 use Rattle.rule_table.specs.Candidates.{candidates, four}
 use Rattle.rule_terms.specs.Rank.{rank}
@@ -25,14 +25,14 @@ use Rattle.rule_terms.proofs.Rules.{grounded}
 use Rattle.rule_table.proofs.Firsts.{rules-cons, terms_at-none}
 
 -- each has n parameters, and those after it are the choices behind it
-abbrev Follow : ℕ → Terms → List (List ℕ) → Type 0
+abbrev Follow : ℕ → RuleTree → List (List ℕ) → Type 0
 Follow n t [] = Unit {0}
 Follow n t (v ∷ vs) = (length v ≡ n) × ((zs : List ℕ) → choices_after t (v ++ zs) ≡ vs) × Follow n t vs
 
-abbrev all_of : (ℕ → Terms) → List ℕ → List (List ℕ)
+abbrev all_of : (ℕ → RuleTree) → List ℕ → List (List ℕ)
 all_of f us = flat_map (λ y. map (λ ys. y ∷ ys) (choices (f y))) us
 
-module _ (n low high : ℕ) (f : ℕ → Terms) where
+module _ (n low high : ℕ) (f : ℕ → RuleTree) where
   -- the choices with the first parameter x, and those with a greater one
   follow-joined : (x : ℕ) (vs : List (List ℕ)) → Follow n (f x) vs → Follow (suc n) (from low to high take f) (all_of f (upward (x + 1) high))
       → Follow (suc n) (from low to high take f) (map (λ ys. x ∷ ys) vs ++ all_of f (upward (x + 1) high))
@@ -47,7 +47,7 @@ module _ (n low high : ℕ) (f : ℕ → Terms) where
       subst (λ us. Follow (suc n) (from low to high take f) (all_of f us)) (sym (upward-cons x high (omega arith)))
       (follow-joined x (choices (f x)) (h x) (follow-upward m (x + 1) (omega arith) h))
 
-choices_follow : (n r : ℕ) (t : Terms) → IsGrounded n r t → Follow n t (choices t)
+choices_follow : (n r : ℕ) (t : RuleTree) → IsGrounded n r t → Follow n t (choices t)
 unfolding choices choices_after
 choices_follow n r (when c asks ps) g = by c (list_all in_bounds ps) (λ h k. (g h (each-passing in_bounds ps k)).last)
   where
@@ -58,7 +58,7 @@ choices_follow n r (when c asks ps) g = by c (list_all in_bounds ps) (λ h k. (g
 choices_follow zero r (from low to high take f) g = absurd g
 choices_follow (suc n) r (from low to high take f) g = follow-upward n low high f (high + 1 - low) low refl (λ y. choices_follow n r (f y) (g y))
 
-after_follow : (n r : ℕ) (t : Terms) (ws : List ℕ) → IsGrounded n r t → Follow n t (choices_after t ws)
+after_follow : (n r : ℕ) (t : RuleTree) (ws : List ℕ) → IsGrounded n r t → Follow n t (choices_after t ws)
 unfolding choices_after
 after_follow n r (when c asks ps) ws g = tt
 after_follow zero r (from low to high take f) ws g = absurd g

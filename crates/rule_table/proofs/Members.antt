@@ -15,12 +15,12 @@ use Rattle.design_base.specs.Rules.{rules, number_of_rule, serves, kind_of, titl
 use Rattle.design_base.specs.Limits.{in_bounds, within}
 use Rattle.design_base.specs.Steps.{Step, IsStep, step, step_with}
 use Rattle.smallvec.specs.SmallVec.{SmallVec}
-use Rattle.rule_terms.specs.declared.next.Next.TheVariants.{Parameter, Premises, Nothing}
-use Rattle.rule_terms.specs.Terms.{Terms, when◌asks◌, from◌to◌take◌, choices, allows, premises_at, terms_at}
+use Rattle.rule_terms.specs.declared.branch.Branch.TheVariants.{Parameter, Premises, Nothing}
+use Rattle.rule_terms.specs.RuleTree.{RuleTree, when◌asks◌, from◌to◌take◌, choices, allows, premises_at, terms_at}
 use Rattle.rule_terms.specs.Table.{terms}
 use Rattle.rule_table.specs.Candidates.{FindsPremises, candidates, serving, is_candidate, premises, four}
 use Rattle.rule_terms.specs.Rank.{rank}
-use Rattle.rule_terms.specs.Nexts.{IsNext}
+use Rattle.rule_terms.specs.Branches.{IsBranch}
 use Rattle.rule_table.proofs.Each.{each-passing}
 use Rattle.rule_terms.proofs.Grounded.{IsGrounded}
 use Rattle.rule_table.proofs.Passing.{candidates_are}
@@ -29,7 +29,7 @@ use Rattle.rule_table.proofs.Firsts.{terms_at-none, next-parameter, next-premise
 
 -- what is allowed, and the premises, by what the terms say first
 
-module _ (t : Terms) (xs rest : List ℕ) (low high : ℕ) (h : IsNext (terms_at t xs) (Parameter low high)) where
+module _ (t : RuleTree) (xs rest : List ℕ) (low high : ℕ) (h : IsBranch (terms_at t xs) (Parameter low high)) where
   further : (x : ℕ) (ys tail : List ℕ) → ys ≡ xs ++ x ∷ [] → rest ≡ x ∷ tail → allows (terms_at t xs) rest ≡ (within low high x && allows (terms_at t ys) tail)
   unfolding allows
   further x ys tail e k = (λ i. allows (next-parameter t xs low high h i) (k i)) ∙ (λ i. within low high x && allows (terms_at t (sym e i)) tail)
@@ -55,7 +55,7 @@ module _ (t : Terms) (xs rest : List ℕ) (low high : ℕ) (h : IsNext (terms_at
   pub found_outside : (x : ℕ) (tail : List ℕ) → rest ≡ x ∷ tail → within low high x ≡ false → FindsPremises (terms_at t xs) rest None
   found_outside x tail k w = sym (allows_outside x tail false k (sym w) refl)
 
-module _ (t : Terms) (xs rest : List ℕ) (low high : ℕ) (h : IsNext (terms_at t xs) (Parameter low high)) (e : length rest ≡ 0) where
+module _ (t : RuleTree) (xs rest : List ℕ) (low high : ℕ) (h : IsBranch (terms_at t xs) (Parameter low high)) (e : length rest ≡ 0) where
   pub found_short : FindsPremises (terms_at t xs) rest None
   unfolding allows
   found_short = by rest e
@@ -64,19 +64,19 @@ module _ (t : Terms) (xs rest : List ℕ) (low high : ℕ) (h : IsNext (terms_at
       by [] e = ap (λ t. allows t []) (next-parameter t xs low high h)
       by (x ∷ rest) e = absurd (omega (arith, e))
 
-module _ (t : Terms) (rest : List ℕ) where
-  allows_premises : (list : SmallVec Query) → IsNext t (Premises list) → allows t rest ≡ list_all in_bounds list.items
+module _ (t : RuleTree) (rest : List ℕ) where
+  allows_premises : (list : SmallVec Query) → IsBranch t (Premises list) → allows t rest ≡ list_all in_bounds list.items
   unfolding allows
   allows_premises list h = ap (λ t. allows t rest) (next-premises t list h)
 
-  pub found_premises : (list : SmallVec Query) → IsNext t (Premises list) → list_all in_bounds list.items ≡ true → length list.items ≤ PREMISES_MAX → FindsPremises t rest (Some list)
+  pub found_premises : (list : SmallVec Query) → IsBranch t (Premises list) → list_all in_bounds list.items ≡ true → length list.items ≤ PREMISES_MAX → FindsPremises t rest (Some list)
   unfolding premises_at
   found_premises list h b few = (allows_premises list h ∙ b, ap (λ t. premises_at t rest) (sym (next-premises t list h)), few)
 
-  pub found_unbounded : (list : SmallVec Query) → IsNext t (Premises list) → list_all in_bounds list.items ≡ false → FindsPremises t rest None
+  pub found_unbounded : (list : SmallVec Query) → IsBranch t (Premises list) → list_all in_bounds list.items ≡ false → FindsPremises t rest None
   found_unbounded list h b = allows_premises list h ∙ b
 
-  pub found_nothing : IsNext t Nothing → FindsPremises t rest None
+  pub found_nothing : IsBranch t Nothing → FindsPremises t rest None
   unfolding allows
   found_nothing h = ap (λ t. allows t rest) (next-nothing t h).1
 
@@ -116,14 +116,14 @@ Contains-rules TdOne = (0, omega arith, refl)
 Contains-rules r = (number_of_rule r - 1, omega arith, refl)
 
 -- parameters that are allowed begin with n that are chosen
-record Begins (n : ℕ) (t : Terms) (ys : List ℕ) : Type 0 where
+record Begins (n : ℕ) (t : RuleTree) (ys : List ℕ) : Type 0 where
   pub first : List ℕ
   pub rest : List ℕ
   pub chosen : Contains (choices t) first
   pub whole : ys ≡ first ++ rest
   pub many : length first ≡ n
 
-allowed_begins : (n r : ℕ) (t : Terms) (ys : List ℕ) → IsGrounded n r t → allows t ys ≡ true → Begins n t ys
+allowed_begins : (n r : ℕ) (t : RuleTree) (ys : List ℕ) → IsGrounded n r t → allows t ys ≡ true → Begins n t ys
 unfolding choices allows
 allowed_begins n r (when c asks ps) ys g h =
     let a = both c (list_all in_bounds ps) h in

@@ -10,7 +10,7 @@ use Rattle.design_base.specs.declared.rule.Rule.{Rule}
 use Rattle.design_base.specs.Limits.{in_bounds, within}
 use Rattle.design_base.specs.Rules.{rules, serves, kind_of, title}
 use Rattle.design_base.specs.Steps.{Step, step_with}
-use Rattle.rule_terms.specs.Terms.{Terms, when◌asks◌, from◌to◌take◌, choices, allows, premises_at}
+use Rattle.rule_terms.specs.RuleTree.{RuleTree, when◌asks◌, from◌to◌take◌, choices, allows, premises_at}
 use Rattle.rule_terms.specs.Table.{terms}
 use Rattle.rule_table.specs.Candidates.{candidates, serving, premises, four, is_candidate}
 use Rattle.rule_terms.specs.Rank.{rank}
@@ -20,10 +20,10 @@ use Rattle.counting.proofs.Upward.{each-upward}
 use Rattle.rule_table.proofs.Each.{each-both, each-weaker, each-passing, each-map, each-flat_map, each-filtered, guarded}
 
 -- whatever stands behind the parameters, they are allowed; there are at most n
-abbrev IsAllowed : ℕ → Terms → List ℕ → Type 0
+abbrev IsAllowed : ℕ → RuleTree → List ℕ → Type 0
 IsAllowed n t xs = (length xs ≤ n) × ((zs : List ℕ) → allows t (xs ++ zs) ≡ true)
 
-choices_allowed : (n r : ℕ) (t : Terms) → IsGrounded n r t → AllByRecursion (IsAllowed n t) (choices t)
+choices_allowed : (n r : ℕ) (t : RuleTree) → IsGrounded n r t → AllByRecursion (IsAllowed n t) (choices t)
 unfolding choices allows
 choices_allowed n r (when c asks ps) g = guarded (IsAllowed n (when c asks ps)) (c && list_all in_bounds ps) [] (λ e. (omega arith, λ zs. e))
 choices_allowed zero r (from low to high take f) g = absurd g
@@ -70,7 +70,7 @@ abbrev pub IsBelow : ℕ → Query → Type 0
 IsBelow r p = (in_bounds p ≡ true) × (rank p < r)
 
 -- the premises at parameters that are allowed
-premises_below : (n r : ℕ) (t : Terms) (xs : List ℕ) → IsGrounded n r t → allows t xs ≡ true → (length (premises_at t xs) ≤ PREMISES_MAX) × AllByRecursion (IsBelow r) (premises_at t xs)
+premises_below : (n r : ℕ) (t : RuleTree) (xs : List ℕ) → IsGrounded n r t → allows t xs ≡ true → (length (premises_at t xs) ≤ PREMISES_MAX) × AllByRecursion (IsBelow r) (premises_at t xs)
 unfolding allows premises_at
 premises_below n r (when c asks ps) xs g h =
     let a = both c (list_all in_bounds ps) h in

@@ -14,7 +14,7 @@ use Rattle.design_base.specs.Steps.{Step, IsStep, step}
 use Rattle.criteria.specs.Criteria.{criterion_of}
 use Rattle.rule_table.specs.Candidates.{candidates, premises, is_candidate}
 use Rattle.rule_terms.specs.Table.{terms}
-use Rattle.rule_terms.specs.Terms.{when◌asks◌, allows, premises_at}
+use Rattle.rule_terms.specs.RuleTree.{when◌asks◌, allows, premises_at}
 use Rattle.rule_table.specs.Verdicts.{judged, verdict, first_step, is_yes, yes_or_unknown}
 use Rattle.rule_table.proofs.Members.{candidate_is_in}
 use Rattle.rule_table.proofs.Unfolds.{verdict_unfolds}

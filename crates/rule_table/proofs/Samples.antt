@@ -18,7 +18,7 @@ use Rattle.rule_table.specs.Closure.{closure, once, reached, reached_below}
 use Rattle.rule_terms.specs.Rank.{rank}
 use Rattle.rule_terms.specs.Table.{terms}
 use Rattle.rule_terms.specs.TdTerms.{td_terms}
-use Rattle.rule_terms.specs.Terms.{choices, premises_at}
+use Rattle.rule_terms.specs.RuleTree.{choices, premises_at}
 use Rattle.rule_table.specs.Verdicts.{judged, verdict, verdict_below}
 use Rattle.rule_table.specs.Work.{work, work_below}
 

@@ -21,7 +21,7 @@ use Rattle.rule_terms.specs.BibdTerms.{bibd_terms}
 use Rattle.rule_table.specs.Candidates.{is_candidate, premises}
 use Rattle.rule_table.specs.Laws.{HasSettledSize, SettledLaw}
 use Rattle.rule_terms.specs.Table.{terms}
-use Rattle.rule_terms.specs.Terms.{allows, premises_at}
+use Rattle.rule_terms.specs.RuleTree.{allows, premises_at}
 use Rattle.rule_table.specs.Verdicts.{judged, verdict, first_step, is_yes, yes_or_unknown}
 use Rattle.rule_terms.proofs.Bounds.{bibd_bounds}
 use Rattle.rule_table.proofs.Proved.{IsYes, proved_by, proved_alone}

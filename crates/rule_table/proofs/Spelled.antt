@@ -8,7 +8,7 @@ use Rattle.design_base.specs.Rules.{title, kind_of, same_kind, serves}
 use Rattle.design_base.specs.Steps.{Step}
 use Rattle.rule_table.specs.Candidates.{four, is_candidate}
 use Rattle.rule_terms.specs.Table.{terms}
-use Rattle.rule_terms.specs.Terms.{allows}
+use Rattle.rule_terms.specs.RuleTree.{allows}
 
 pub candidate_serves : (q : Query) (s : Step) → is_candidate q s ≡ true → serves (kind_of q) s.rule ≡ true
 unfolding is_candidate

@@ -6,7 +6,7 @@ use Rattle.design_base.specs.declared.query.Query.{Query}
 use Rattle.design_base.specs.declared.rule.Rule.{Rule}
 use Rattle.design_base.specs.Rules.{rules, serves, kind_of}
 use Rattle.design_base.specs.Steps.{Step, step_with}
-use Rattle.rule_terms.specs.Terms.{Terms, choices, allows, premises_at}
+use Rattle.rule_terms.specs.RuleTree.{RuleTree, choices, allows, premises_at}
 use Rattle.rule_terms.specs.Table.{terms}
 
 -- the parameters of the step, those past the rule's own too
@@ -30,6 +30,6 @@ unfoldable pub premises : Query → Step → List Query
 premises q s = premises_at (terms q s.rule) (four s)
 
 -- what is found at some parameters: their premises, which are few, where the terms allow them
-abbrev pub FindsPremises : Terms → List ℕ → Option (SmallVec Query) → Type 0
+abbrev pub FindsPremises : RuleTree → List ℕ → Option (SmallVec Query) → Type 0
 FindsPremises t xs None = allows t xs ≡ false
 FindsPremises t xs (Some list) = (allows t xs ≡ true) × (list.items ≡ premises_at t xs) × (length list.items ≤ PREMISES_MAX)

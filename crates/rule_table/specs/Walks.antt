@@ -5,7 +5,7 @@ use Rattle.design_base.specs.declared.query.Query.{Query}
 use Rattle.design_base.specs.declared.rule.Rule.{Rule}
 use Rattle.design_base.specs.Rules.{rules, number_of_rule, serves, kind_of}
 use Rattle.design_base.specs.Steps.{Step, step_with}
-use Rattle.rule_terms.specs.Terms.{Terms, when◌asks◌, from◌to◌take◌, choices, terms_at}
+use Rattle.rule_terms.specs.RuleTree.{RuleTree, when◌asks◌, from◌to◌take◌, choices, terms_at}
 use Rattle.rule_terms.specs.Table.{terms}
 use Rattle.rule_table.specs.Candidates.{four, serving}
 
@@ -15,7 +15,7 @@ head [] = None
 head (x ∷ xs) = Some x
 
 -- the choices behind these parameters, and none or any behind them
-unfoldable pub choices_after : Terms → List ℕ → List (List ℕ)
+unfoldable pub choices_after : RuleTree → List ℕ → List (List ℕ)
 choices_after (when condition asks premises) xs = []
 choices_after (from low to high take f) [] = []
 choices_after (from low to high take f) (x ∷ xs) =

@@ -5,12 +5,12 @@ ghost use Rattle.design_base.specs.Limits.{in_bounds};
 ghost use Rattle.design_base.specs.Rules.{title};
 ghost use Rattle.rule_table.specs.Candidates.{candidates, premises as premises_of, is_candidate as is_candidate_of, FindsPremises};
 ghost use Rattle.rule_terms.specs.Table.{terms};
-ghost use Rattle.rule_terms.specs.Takens.{listed, IsSmall};
-ghost use Rattle.rule_terms.specs.Terms.{terms_at};
+ghost use Rattle.rule_terms.specs.Prefixes.{listed, IsSmall};
+ghost use Rattle.rule_terms.specs.RuleTree.{terms_at};
 
 use crate::walk::are_in_bounds;
 use design_base::{Query, Rule, Step, is_within};
-use rule_terms::{Next, Taken, Tools, next_of};
+use rule_terms::{Branch, Prefix, Tools, branch_of};
 use smallvec::SmallVec;
 
 // The premises at the rest of the parameters, where the table allows these.
@@ -19,34 +19,34 @@ fn allowed_premises(
     tools: &Tools,
     q: &Query,
     rule: Rule,
-    taken: Taken,
+    prefix: Prefix,
     rest: &[u16],
 ) -> Option<SmallVec<Query, 8>>
     requires bounds { in_bounds q.now ≡ true }
-    requires small { IsSmall taken }
-    requires count { length (listed taken) ≤ (title rule).parameters }
+    requires small { IsSmall prefix }
+    requires count { length (listed prefix) ≤ (title rule).parameters }
     requires rest_small { AllByRecursion (λ x. x ≤ PARAMETER_MAX) rest.now }
-    ensures { FindsPremises (terms_at (terms q.now rule) (listed taken)) rest.now result }
+    ensures { FindsPremises (terms_at (terms q.now rule) (listed prefix)) rest.now result }
 {
-    match next_of(tools, q, rule, taken) {
-        Next::Parameter { low, high } => match rest.split_first() {
+    match branch_of(tools, q, rule, prefix) {
+        Branch::Parameter { low, high } => match rest.split_first() {
             Some((x, rest)) => {
                 if is_within(low, high, *x) {
-                    allowed_premises(tools, q, rule, taken.with(*x), rest)
+                    allowed_premises(tools, q, rule, prefix.with(*x), rest)
                 } else {
                     None
                 }
             }
             None => None,
         },
-        Next::Premises(premises) => {
+        Branch::Premises(premises) => {
             if are_in_bounds(premises.as_slice()) {
                 Some(premises)
             } else {
                 None
             }
         }
-        Next::Nothing => None,
+        Branch::Nothing => None,
     }
 }
 
@@ -66,7 +66,7 @@ pub fn candidate_premises(tools: &Tools, q: &Query, step: &Step) -> Option<Small
         return None;
     }
     let parameters = [step.a, step.b, step.c, step.d];
-    allowed_premises(tools, q, step.rule, Taken::Zero, &parameters)
+    allowed_premises(tools, q, step.rule, Prefix::Zero, &parameters)
 }
 
 /// Whether the step is a candidate of the question, which is in bounds: its rule serves questions of that kind, and the table allows its

@@ -3,11 +3,11 @@ ghost use Rattle.std.specs.List.{AllByRecursion, list_all};
 ghost use Rattle.design_base.specs.declared.limits.TheConstants.{PARAMETER_MAX};
 ghost use Rattle.design_base.specs.Limits.{in_bounds as is_in_bounds};
 ghost use Rattle.design_base.specs.Rules.{title, rules};
-ghost use Rattle.rule_terms.specs.Takens.{listed, IsSmall};
+ghost use Rattle.rule_terms.specs.Prefixes.{listed, IsSmall};
 ghost use Rattle.rule_table.specs.Walks.{head, steps_under, steps_between, steps_behind, steps_by, steps_of, steps_after};
 
 use design_base::{Query, RULES, Rule, Step, in_bounds, rule_at};
-use rule_terms::{Next, Taken, Tools, next_of};
+use rule_terms::{Branch, Prefix, Tools, branch_of};
 
 // Whether each question is in bounds.
 pub(crate) fn are_in_bounds(questions: &[Query]) -> bool
@@ -19,22 +19,22 @@ pub(crate) fn are_in_bounds(questions: &[Query]) -> bool
 // The first candidate of a rule whose parameters begin so.
 #[tactic(auto, using(crate::proofs::Firsts::first_under_laws))]
 #[cycle(first)]
-fn first_under(tools: &Tools, q: &Query, rule: Rule, taken: Taken) -> Option<Step>
+fn first_under(tools: &Tools, q: &Query, rule: Rule, prefix: Prefix) -> Option<Step>
     requires bounds { is_in_bounds q.now ≡ true }
-    requires small { IsSmall taken }
-    requires count { length (listed taken) ≤ (title rule).parameters }
-    ensures { result ≡ head (steps_under q.now rule (listed taken)) }
+    requires small { IsSmall prefix }
+    requires count { length (listed prefix) ≤ (title rule).parameters }
+    ensures { result ≡ head (steps_under q.now rule (listed prefix)) }
 {
-    match next_of(tools, q, rule, taken) {
-        Next::Parameter { low, high } => first_between(tools, q, rule, taken, low, high),
-        Next::Premises(premises) => {
+    match branch_of(tools, q, rule, prefix) {
+        Branch::Parameter { low, high } => first_between(tools, q, rule, prefix, low, high),
+        Branch::Premises(premises) => {
             if are_in_bounds(premises.as_slice()) {
-                Some(taken.step(rule))
+                Some(prefix.step(rule))
             } else {
                 None
             }
         }
-        Next::Nothing => None,
+        Branch::Nothing => None,
     }
 }
 
@@ -45,18 +45,18 @@ fn first_between(
     tools: &Tools,
     q: &Query,
     rule: Rule,
-    taken: Taken,
+    prefix: Prefix,
     low: u16,
     high: u16,
 ) -> Option<Step>
     requires bounds { is_in_bounds q.now ≡ true }
-    requires small { IsSmall taken }
-    requires count { length (listed taken) < (title rule).parameters }
+    requires small { IsSmall prefix }
+    requires count { length (listed prefix) < (title rule).parameters }
     requires high_small { high ≤ PARAMETER_MAX }
-    ensures { result ≡ head (steps_between q.now rule (listed taken) low high) }
+    ensures { result ≡ head (steps_between q.now rule (listed prefix) low high) }
 {
     for x in low..high + 1 {
-        if let Some(step) = first_under(tools, q, rule, taken.with(x)) {
+        if let Some(step) = first_under(tools, q, rule, prefix.with(x)) {
             return Some(step);
         }
     }
@@ -65,21 +65,21 @@ fn first_between(
 
 // The first of those that begin so and stand behind the rest.
 #[tactic(auto, using(crate::proofs::Firsts::first_behind_laws))]
-fn first_behind(tools: &Tools, q: &Query, rule: Rule, taken: Taken, rest: &[u16]) -> Option<Step>
+fn first_behind(tools: &Tools, q: &Query, rule: Rule, prefix: Prefix, rest: &[u16]) -> Option<Step>
     requires bounds { is_in_bounds q.now ≡ true }
-    requires small { IsSmall taken }
-    requires count { length (listed taken) ≤ (title rule).parameters }
+    requires small { IsSmall prefix }
+    requires count { length (listed prefix) ≤ (title rule).parameters }
     requires rest_small { AllByRecursion (λ x. x ≤ PARAMETER_MAX) rest.now }
-    ensures { result ≡ head (steps_behind q.now rule (listed taken) rest.now) }
+    ensures { result ≡ head (steps_behind q.now rule (listed prefix) rest.now) }
 {
     let (x, rest) = rest.split_first()?;
-    let Next::Parameter { low: _, high } = next_of(tools, q, rule, taken) else {
+    let Branch::Parameter { low: _, high } = branch_of(tools, q, rule, prefix) else {
         return None;
     };
-    if let Some(step) = first_behind(tools, q, rule, taken.with(*x), rest) {
+    if let Some(step) = first_behind(tools, q, rule, prefix.with(*x), rest) {
         return Some(step);
     }
-    first_between(tools, q, rule, taken, *x + 1, high)
+    first_between(tools, q, rule, prefix, *x + 1, high)
 }
 
 // The first candidate of a rule.
@@ -89,7 +89,7 @@ fn first_of_rule(tools: &Tools, q: &Query, rule: Rule) -> Option<Step>
     ensures { result ≡ head (steps_by q.now rule) }
 {
     if rule.serves(q.kind()) {
-        first_under(tools, q, rule, Taken::Zero)
+        first_under(tools, q, rule, Prefix::Zero)
     } else {
         None
     }
@@ -117,7 +117,7 @@ pub(crate) fn following(tools: &Tools, q: &Query, step: &Step) -> Option<Step>
     ensures { result ≡ head (steps_after q.now step.now) }
 {
     let rest = [step.a, step.b, step.c, step.d];
-    if let Some(found) = first_behind(tools, q, step.rule, Taken::Zero, &rest) {
+    if let Some(found) = first_behind(tools, q, step.rule, Prefix::Zero, &rest) {
         return Some(found);
     }
     first_of_rules(tools, q, step.rule.number())

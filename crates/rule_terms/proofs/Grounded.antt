@@ -9,7 +9,7 @@ use Rattle.design_base.specs.declared.rule.Rule.{Rule}
 use Rattle.design_base.specs.declared.rule.Rule.TheVariants.{TdOne}
 use Rattle.design_base.specs.Limits.{in_bounds}
 use Rattle.design_base.specs.Rules.{title}
-use Rattle.rule_terms.specs.Terms.{Terms, when◌asks◌, from◌to◌take◌}
+use Rattle.rule_terms.specs.RuleTree.{RuleTree, when◌asks◌, from◌to◌take◌}
 use Rattle.rule_terms.specs.Rank.{rank}
 
 -- no more parameters come, and the premises are few and rank below r
@@ -19,7 +19,7 @@ pub record AreGrounded (n r : ℕ) (premises : List Query) : Type 0 where
   pub smaller : AllByRecursion (λ p. rank p < r) premises
 
 -- n parameters are taken; and where the condition holds and the premises are in bounds, those are few and rank below r
-abbrev pub IsGrounded : ℕ → ℕ → Terms → Type 0
+abbrev pub IsGrounded : ℕ → ℕ → RuleTree → Type 0
 IsGrounded n r (when condition asks premises) = condition ≡ true → AllByRecursion (λ p. in_bounds p ≡ true) premises → AreGrounded n r premises
 IsGrounded zero r (from low to high take f) = ⊥
 IsGrounded (suc n) r (from low to high take f) = (x : ℕ) → IsGrounded n r (f x)

@@ -7,7 +7,7 @@ use Rattle.design_base.specs.declared.rule.Rule.TheVariants.{Fill1, Pbd as PbdRu
 use Rattle.rule_terms.specs.BibdTerms.{bibd_terms}
 use Rattle.rule_terms.specs.GddTerms.{gdd_terms}
 use Rattle.rule_terms.specs.PbdTerms.{pbd_terms}
-use Rattle.rule_terms.specs.Terms.{choices, premises_at}
+use Rattle.rule_terms.specs.RuleTree.{choices, premises_at}
 
 filled : choices (bibd_terms 25 4 1 Fill1) ≡ (4 ∷ 6 ∷ []) ∷ (6 ∷ 4 ∷ []) ∷ []
 unfolding bibd_terms choices in_bounds join_below

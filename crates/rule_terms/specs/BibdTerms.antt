@@ -12,9 +12,9 @@ use Rattle.design_base.specs.Geometries.{point_count}
 use Rattle.block_counts.specs.Counts.{replication_number, complement_cover}
 use Rattle.design_checks.specs.Findings.{passes_check}
 use Rattle.plane_curves.specs.Curves.{arc_blocks, unital_blocks}
-use Rattle.rule_terms.specs.Terms.{Terms, when◌asks◌, from◌to◌take◌, only◌take◌, never}
+use Rattle.rule_terms.specs.RuleTree.{RuleTree, when◌asks◌, from◌to◌take◌, only◌take◌, never}
 
-unfoldable pub bibd_terms : ℕ → ℕ → ℕ → Rule → Terms
+unfoldable pub bibd_terms : ℕ → ℕ → ℕ → Rule → RuleTree
 bibd_terms v k l Whole = when k == v asks []
 bibd_terms v k l Pairs = when k == 2 asks []
 bibd_terms v k l Omit = when k == v - 1 && 3 <= v && divides (v - 2) l asks []

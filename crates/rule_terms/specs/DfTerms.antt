@@ -8,9 +8,9 @@ use Rattle.design_base.specs.declared.rule.Rule.TheVariants.{Table, Powers, Cose
 use Rattle.design_base.specs.Steps.{step}
 use Rattle.difference_sets.specs.FamilySteps.{is_tested_step}
 use Rattle.difference_sets.specs.Listed.{families}
-use Rattle.rule_terms.specs.Terms.{Terms, when◌asks◌, from◌to◌take◌, never}
+use Rattle.rule_terms.specs.RuleTree.{RuleTree, when◌asks◌, from◌to◌take◌, never}
 
-unfoldable pub df_terms : Group → ℕ → ℕ → ℕ → Rule → Terms
+unfoldable pub df_terms : Group → ℕ → ℕ → ℕ → Rule → RuleTree
 df_terms group v k l Table = from 1 to length families take (λ entry.
     when is_tested_step (Df group v k l) (step Table entry 0 0 0)
     asks [])

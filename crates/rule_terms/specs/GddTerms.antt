@@ -6,9 +6,9 @@ use Rattle.counting.specs.Search.{◌<=◌}
 use Rattle.design_base.specs.declared.query.Query.TheVariants.{Bibd, Gdd, Td as TdQuery}
 use Rattle.design_base.specs.declared.rule.Rule.{Rule}
 use Rattle.design_base.specs.declared.rule.Rule.TheVariants.{Td, Points, GddDelete, Weight, Split}
-use Rattle.rule_terms.specs.Terms.{Terms, when◌asks◌, from◌to◌take◌, never}
+use Rattle.rule_terms.specs.RuleTree.{RuleTree, when◌asks◌, from◌to◌take◌, never}
 
-unfoldable pub gdd_terms : ℕ → ℕ → ℕ → Rule → Terms
+unfoldable pub gdd_terms : ℕ → ℕ → ℕ → Rule → RuleTree
 gdd_terms k g u Td = when u == k asks (TdQuery k g ∷ [])
 gdd_terms k g u Points = when g == 1 asks (Bibd u k 1 ∷ [])
 gdd_terms k g u GddDelete = when g == k - 1 asks (Bibd ((k - 1) * u + 1) k 1 ∷ [])

@@ -1,4 +1,4 @@
-pub mod Terms
+pub mod RuleTree
 pub mod TdTerms
 pub mod DfTerms
 pub mod BibdTerms
@@ -6,5 +6,5 @@ pub mod GddTerms
 pub mod PbdTerms
 pub mod Table
 pub mod Rank
-pub mod Nexts
-pub mod Takens
+pub mod Branches
+pub mod Prefixes

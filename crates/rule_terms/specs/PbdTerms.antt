@@ -5,9 +5,9 @@ use Rattle.counting.specs.Search.{◌<=◌}
 use Rattle.design_base.specs.declared.query.Query.TheVariants.{Bibd, Pbd, Td}
 use Rattle.design_base.specs.declared.rule.Rule.{Rule}
 use Rattle.design_base.specs.declared.rule.Rule.TheVariants.{PbdOne, Bibds, Bibdt, PbdDelete, Truncate, Tdfill, Tdfill1}
-use Rattle.rule_terms.specs.Terms.{Terms, when◌asks◌, from◌to◌take◌, only◌take◌, never}
+use Rattle.rule_terms.specs.RuleTree.{RuleTree, when◌asks◌, from◌to◌take◌, only◌take◌, never}
 
-unfoldable pub pbd_terms : ℕ → ℕ → Rule → Terms
+unfoldable pub pbd_terms : ℕ → ℕ → Rule → RuleTree
 pbd_terms v s PbdOne = when v == s || v == s + 1 asks []
 pbd_terms v s Bibds = when true asks (Bibd v s 1 ∷ [])
 pbd_terms v s Bibdt = when true asks (Bibd v (s + 1) 1 ∷ [])

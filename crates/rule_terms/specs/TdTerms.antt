@@ -6,9 +6,9 @@ use Rattle.design_base.specs.declared.query.Query.TheVariants.{Td}
 use Rattle.design_base.specs.declared.rule.Rule.{Rule}
 use Rattle.design_base.specs.declared.rule.Rule.TheVariants.{TdOne, Cyclic, Field, Product, Parker, Wilson1, Wilson2}
 use Rattle.design_base.specs.Fields.{has_field}
-use Rattle.rule_terms.specs.Terms.{Terms, when◌asks◌, from◌to◌take◌, only◌take◌, never}
+use Rattle.rule_terms.specs.RuleTree.{RuleTree, when◌asks◌, from◌to◌take◌, only◌take◌, never}
 
-unfoldable pub td_terms : ℕ → ℕ → Rule → Terms
+unfoldable pub td_terms : ℕ → ℕ → Rule → RuleTree
 td_terms k n TdOne = when n == 1 asks []
 td_terms k n Cyclic = when 2 <= n && k <= 3 asks []
 td_terms k n Field = when has_field n && k <= n + 1 asks []

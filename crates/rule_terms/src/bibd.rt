@@ -4,30 +4,30 @@ ghost use Rattle.design_base.specs.declared.limits.TheConstants.{COVER_MAX, PARA
 ghost use Rattle.design_base.specs.Rules.{title};
 ghost use Rattle.design_base.specs.declared.rule.Rule.TheVariants.{Complement, Fill, Fill1, Pbd, Sum};
 ghost use Rattle.rule_terms.specs.BibdTerms.{bibd_terms};
-ghost use Rattle.rule_terms.specs.Nexts.{IsFew, IsFitting, IsNext};
-ghost use Rattle.rule_terms.specs.Takens.{listed, IsSmall};
-ghost use Rattle.rule_terms.specs.Terms.{terms_at};
+ghost use Rattle.rule_terms.specs.Branches.{IsFew, IsFitting, IsBranch};
+ghost use Rattle.rule_terms.specs.Prefixes.{listed, IsSmall};
+ghost use Rattle.rule_terms.specs.RuleTree.{terms_at};
 
+use crate::branch::{Branch, div_or_zero, divides, range, single, times, when};
 use crate::geometries::{affine, arc, projective, unital};
-use crate::next::{Next, divides, from_to, only, over, times, when};
+use crate::prefix::Prefix;
 use crate::sizes::{complement_cover, replication_number};
-use crate::taken::Taken;
 use design_base::{Group, Query, Rule};
 use std::alloc::Global;
 
 // Groups of g points are filled with block designs.
 #[tactic(auto, unfolding(crate::specs::BibdTerms::bibd_terms))]
-fn fill(alloc: Global, v: u16, k: u16, l: u16, taken: Taken) -> Next
+fn fill(alloc: Global, v: u16, k: u16, l: u16, prefix: Prefix) -> Branch
     requires least { 1 ≤ k }
     requires points { v ≤ POINTS_MAX }
-    requires count { length (listed taken) ≤ (title Fill).parameters }
-    ensures next { IsNext (terms_at (bibd_terms v k l Fill) (listed taken)) result }
-    ensures fits { IsFitting Fill (listed taken) result }
+    requires count { length (listed prefix) ≤ (title Fill).parameters }
+    ensures branch { IsBranch (terms_at (bibd_terms v k l Fill) (listed prefix)) result }
+    ensures fits { IsFitting Fill (listed prefix) result }
 {
-    match taken {
-        Taken::Zero => from_to(k, v / k),
-        Taken::One(g) => only(over(v, g)),
-        Taken::Two(g, u) => when(
+    match prefix {
+        Prefix::Zero => range(k, v / k),
+        Prefix::One(g) => single(div_or_zero(v, g)),
+        Prefix::Two(g, u) => when(
             alloc,
             l == 1 && times(g, u) == u32::from(v) && k <= g && k <= u,
             &[Query::Gdd { k, g, u }, Query::Bibd { v: g, k, l: 1 }],
@@ -38,19 +38,19 @@ fn fill(alloc: Global, v: u16, k: u16, l: u16, taken: Taken) -> Next
 
 // Groups of g points are filled with block designs that share one point more.
 #[tactic(auto, unfolding(crate::specs::BibdTerms::bibd_terms))]
-fn fill_with_point(alloc: Global, v: u16, k: u16, l: u16, taken: Taken) -> Next
+fn fill_with_point(alloc: Global, v: u16, k: u16, l: u16, prefix: Prefix) -> Branch
     requires least { 1 ≤ k }
     requires some { 1 ≤ v }
     requires points { v ≤ POINTS_MAX }
-    requires small { IsSmall taken }
-    requires count { length (listed taken) ≤ (title Fill1).parameters }
-    ensures next { IsNext (terms_at (bibd_terms v k l Fill1) (listed taken)) result }
-    ensures fits { IsFitting Fill1 (listed taken) result }
+    requires small { IsSmall prefix }
+    requires count { length (listed prefix) ≤ (title Fill1).parameters }
+    ensures branch { IsBranch (terms_at (bibd_terms v k l Fill1) (listed prefix)) result }
+    ensures fits { IsFitting Fill1 (listed prefix) result }
 {
-    match taken {
-        Taken::Zero => from_to(k, (v - 1) / k),
-        Taken::One(g) => only(over(v - 1, g)),
-        Taken::Two(g, u) => when(
+    match prefix {
+        Prefix::Zero => range(k, (v - 1) / k),
+        Prefix::One(g) => single(div_or_zero(v - 1, g)),
+        Prefix::Two(g, u) => when(
             alloc,
             l == 1 && times(g, u) == u32::from(v - 1) && k <= g && k <= u,
             &[Query::Gdd { k, g, u }, Query::Bibd { v: g + 1, k, l: 1 }],
@@ -61,20 +61,20 @@ fn fill_with_point(alloc: Global, v: u16, k: u16, l: u16, taken: Taken) -> Next
 
 // Lines of s and of s + 1 times k - 1 points through one point are filled with block designs.
 #[tactic(auto, unfolding(crate::specs::BibdTerms::bibd_terms))]
-fn fill_lines(alloc: Global, v: u16, k: u16, l: u16, taken: Taken) -> Next
+fn fill_lines(alloc: Global, v: u16, k: u16, l: u16, prefix: Prefix) -> Branch
     requires least { 2 ≤ k }
     requires block { k ≤ v }
     requires points { v ≤ POINTS_MAX }
-    requires small { IsSmall taken }
-    requires count { length (listed taken) ≤ (title Pbd).parameters }
-    ensures next { IsNext (terms_at (bibd_terms v k l Pbd) (listed taken)) result }
-    ensures fits { IsFitting Pbd (listed taken) result }
+    requires small { IsSmall prefix }
+    requires count { length (listed prefix) ≤ (title Pbd).parameters }
+    ensures branch { IsBranch (terms_at (bibd_terms v k l Pbd) (listed prefix)) result }
+    ensures fits { IsFitting Pbd (listed prefix) result }
 {
     let n = (v - 1) / (k - 1);
     let once = |v: u16| Query::Bibd { v, k, l: 1 };
-    match taken {
-        Taken::Zero => from_to(2, n.saturating_sub(2)),
-        Taken::One(s) if s < n => when(
+    match prefix {
+        Prefix::Zero => range(2, n.saturating_sub(2)),
+        Prefix::One(s) if s < n => when(
             alloc,
             l == 1 && 3 <= k && divides(k - 1, v - 1) && 2 <= s && s + 1 < n,
             &[
@@ -84,24 +84,24 @@ fn fill_lines(alloc: Global, v: u16, k: u16, l: u16, taken: Taken) -> Next
             ],
         ),
         // A block has fewer points than there are.
-        Taken::One(_) => Next::Nothing,
+        Prefix::One(_) => Branch::Nothing,
         _ => unreachable!(),
     }
 }
 
 // The blocks of two block designs on the same points.
 #[tactic(auto, unfolding(crate::specs::BibdTerms::bibd_terms))]
-fn sum(alloc: Global, v: u16, k: u16, l: u16, taken: Taken) -> Next
+fn sum(alloc: Global, v: u16, k: u16, l: u16, prefix: Prefix) -> Branch
     requires cover { l ≤ COVER_MAX }
-    requires small { IsSmall taken }
-    requires count { length (listed taken) ≤ (title Sum).parameters }
-    ensures next { IsNext (terms_at (bibd_terms v k l Sum) (listed taken)) result }
-    ensures fits { IsFitting Sum (listed taken) result }
+    requires small { IsSmall prefix }
+    requires count { length (listed prefix) ≤ (title Sum).parameters }
+    ensures branch { IsBranch (terms_at (bibd_terms v k l Sum) (listed prefix)) result }
+    ensures fits { IsFitting Sum (listed prefix) result }
 {
     let bibd = |l: u16| Query::Bibd { v, k, l };
-    match taken {
-        Taken::Zero => from_to(1, l / 2),
-        Taken::One(i) => when(
+    match prefix {
+        Prefix::Zero => range(1, l / 2),
+        Prefix::One(i) => when(
             alloc,
             1 <= i && 2 * i <= l,
             &[bibd(i), bibd(l.saturating_sub(i))],
@@ -112,16 +112,16 @@ fn sum(alloc: Global, v: u16, k: u16, l: u16, taken: Taken) -> Next
 
 // The complements of the blocks of a block design.
 #[tactic(auto, unfolding(crate::specs::BibdTerms::bibd_terms))]
-fn complement(alloc: Global, v: u16, k: u16, l: u16) -> Next
+fn complement(alloc: Global, v: u16, k: u16, l: u16) -> Branch
     requires least { 2 ≤ k }
     requires block { k ≤ v }
     requires points { v ≤ POINTS_MAX }
     requires cover { l ≤ COVER_MAX }
-    ensures next { IsNext (bibd_terms v k l Complement) result }
+    ensures branch { IsBranch (bibd_terms v k l Complement) result }
     ensures few { IsFew result }
 {
     if 2 * k <= v {
-        return Next::Nothing;
+        return Branch::Nothing;
     }
     let r = replication_number(v, k, l);
     let j = complement_cover(v, k, l);
@@ -135,17 +135,24 @@ fn complement(alloc: Global, v: u16, k: u16, l: u16) -> Next
     )
 }
 
-// What the table says of a rule of block designs behind the parameters taken so far.
+// What the table says of a rule of block designs behind a prefix of its parameters.
 #[tactic(auto, unfolding(crate::specs::BibdTerms::bibd_terms))]
-pub(crate) fn bibd_next(alloc: Global, v: u16, k: u16, l: u16, rule: Rule, taken: Taken) -> Next
+pub(crate) fn bibd_branch(
+    alloc: Global,
+    v: u16,
+    k: u16,
+    l: u16,
+    rule: Rule,
+    prefix: Prefix,
+) -> Branch
     requires least { 2 ≤ k }
     requires block { k ≤ v }
     requires points { v ≤ POINTS_MAX }
     requires cover { l ≤ COVER_MAX }
-    requires small { IsSmall taken }
-    requires count { length (listed taken) ≤ (title rule).parameters }
-    ensures next { IsNext (terms_at (bibd_terms v k l rule) (listed taken)) result }
-    ensures fits { IsFitting rule (listed taken) result }
+    requires small { IsSmall prefix }
+    requires count { length (listed prefix) ≤ (title rule).parameters }
+    ensures branch { IsBranch (terms_at (bibd_terms v k l rule) (listed prefix)) result }
+    ensures fits { IsFitting rule (listed prefix) result }
 {
     let family = |group: Group| Query::Df { group, v, k, l };
     match rule {
@@ -157,17 +164,17 @@ pub(crate) fn bibd_next(alloc: Global, v: u16, k: u16, l: u16, rule: Rule, taken
         Rule::Double => when(alloc, k == 3 && l == 2 && v % 3 <= 1 && v != 7, &[]),
         Rule::Middle => when(alloc, k == 3 && l == 3 && v % 2 == 1, &[]),
         Rule::Ordered => when(alloc, k == 3 && l == 6, &[]),
-        Rule::Affine => affine(alloc, v, k, l, taken),
-        Rule::Projective => projective(alloc, v, k, l, taken),
-        Rule::Unital => unital(alloc, v, k, l, taken),
-        Rule::Arc => arc(alloc, v, k, l, taken),
+        Rule::Affine => affine(alloc, v, k, l, prefix),
+        Rule::Projective => projective(alloc, v, k, l, prefix),
+        Rule::Unital => unital(alloc, v, k, l, prefix),
+        Rule::Arc => arc(alloc, v, k, l, prefix),
         Rule::Developz => when(alloc, true, &[family(Group::Cyclic)]),
         Rule::Developf => when(alloc, true, &[family(Group::Field)]),
-        Rule::Fill => fill(alloc, v, k, l, taken),
-        Rule::Fill1 => fill_with_point(alloc, v, k, l, taken),
-        Rule::Pbd => fill_lines(alloc, v, k, l, taken),
-        Rule::Sum => sum(alloc, v, k, l, taken),
+        Rule::Fill => fill(alloc, v, k, l, prefix),
+        Rule::Fill1 => fill_with_point(alloc, v, k, l, prefix),
+        Rule::Pbd => fill_lines(alloc, v, k, l, prefix),
+        Rule::Sum => sum(alloc, v, k, l, prefix),
         Rule::Complement => complement(alloc, v, k, l),
-        _ => Next::Nothing,
+        _ => Branch::Nothing,
     }
 }

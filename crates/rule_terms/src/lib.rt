@@ -2,19 +2,19 @@
 #![tactic(auto)]
 
 mod bibd;
+mod branch;
 mod curves;
 mod df;
 mod gdd;
 mod geometries;
-mod next;
 mod pbd;
+mod prefix;
 mod sizes;
 mod table;
-mod taken;
 mod td;
 mod tools;
 
-pub use next::{Next, Premises};
-pub use table::next_of;
-pub use taken::Taken;
+pub use branch::{Branch, Premises};
+pub use prefix::Prefix;
+pub use table::branch_of;
 pub use tools::Tools;

@@ -4,7 +4,7 @@ ghost use Rattle.block_counts.specs.Counts.{complement_cover as cover_of_complem
 ghost use Rattle.design_base.specs.declared.limits.TheConstants.{COVER_MAX, POINTS_MAX};
 ghost use Rattle.design_base.specs.Geometries.{point_count};
 
-use crate::next::times;
+use crate::branch::times;
 
 // In how many blocks each point stands.
 pub(crate) fn replication_number(v: u16, k: u16, l: u16) -> u16

@@ -65,6 +65,8 @@ fn prolonged(n: u16, x: u16, y: u16) -> u16
 ///
 /// `n` is not 2, and `x` and `y` are below `n`. An odd order has the half sums modulo `n`; an even one has those modulo `n` - 1 with one row and one
 /// column more.
+///
+/// D. R. Stinson, Combinatorial Designs: Constructions and Analysis (2004), section 6.2.
 #[tactic(auto, unfolding(crate::specs::Squares::idempotent))]
 pub fn idempotent(n: u16, x: u16, y: u16) -> u16
     requires order { n ≢ 2 }

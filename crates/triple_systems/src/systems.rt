@@ -64,6 +64,8 @@ pub fn skolem(alloc: Global, v: u16) -> Result<Rows, Memory>
 /// It is made like the Bose system, over an idempotent Latin square that need not be symmetric. `v` is from 3 to `POINTS_MAX`, a multiple
 /// of 3 or 1 more, and not 7, since no idempotent square has order 2; `v` = 6 has a list of its own. The answer is `Memory` only for
 /// want of memory.
+///
+/// Handbook of Combinatorial Designs (C. J. Colbourn, J. H. Dinitz, eds., 2nd edition, 2007), II.2.
 #[tactic(auto, using(crate::proofs::DoubleSystem::double_design, crate::proofs::DoubleSystem::double_six, crate::proofs::DoubleSystem::double_else, crate::proofs::Steps::steps))]
 pub fn double(alloc: Global, v: u16) -> Result<Rows, Memory>
     requires shape { (v % 3 ≢ 2) × (v ≢ 7) }
@@ -87,6 +89,9 @@ pub fn double(alloc: Global, v: u16) -> Result<Rows, Memory>
 ///
 /// Above each two points stands their half sum modulo `v`. `v` is odd and at most `POINTS_MAX`. The answer is `Memory` only for want of
 /// memory.
+///
+/// H. Hanani, The existence and construction of balanced incomplete block designs (1961);
+/// Handbook of Combinatorial Designs (C. J. Colbourn, J. H. Dinitz, eds., 2nd edition, 2007), II.2.
 #[tactic(auto, using(crate::proofs::OneGroup::middle_design), unfolding(crate::specs::OneGroup::middle_blocks))]
 pub fn middle(alloc: Global, v: u16) -> Result<Rows, Memory>
     requires shape { v % 2 ≡ 1 }
@@ -104,6 +109,9 @@ pub fn middle(alloc: Global, v: u16) -> Result<Rows, Memory>
 ///
 /// Above each ordered pair of points stands their product in the idempotent square. `v` is from 3 to `POINTS_MAX`. The answer is `Memory`
 /// only for want of memory.
+///
+/// H. Hanani, The existence and construction of balanced incomplete block designs (1961);
+/// Handbook of Combinatorial Designs (C. J. Colbourn, J. H. Dinitz, eds., 2nd edition, 2007), II.2.
 #[tactic(auto, using(crate::proofs::OneGroup::ordered_design), unfolding(crate::specs::OneGroup::ordered_blocks))]
 pub fn ordered(alloc: Global, v: u16) -> Result<Rows, Memory>
     requires in_bounds { (3 ≤ v) × (v ≤ POINTS_MAX) }

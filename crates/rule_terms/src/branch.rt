@@ -1,8 +1,8 @@
 ghost use Rattle.std.specs.Prelude.{◌≡◌, ◌<◌, ◌≤◌, ◌-◌, ◌*◌, ◌/◌, [], length};
 ghost use Rattle.counting.specs.Division.{divides as divides_it};
 ghost use Rattle.design_base.specs.declared.limits.TheConstants.{PREMISES_MAX};
-ghost use Rattle.rule_terms.specs.Nexts.{IsNext, IsFew, Takes};
-ghost use Rattle.rule_terms.specs.Terms.{when◌asks◌};
+ghost use Rattle.rule_terms.specs.Branches.{IsBranch, IsFew, Takes};
+ghost use Rattle.rule_terms.specs.RuleTree.{when◌asks◌};
 
 use design_base::Query;
 use smallvec::SmallVec;
@@ -11,9 +11,10 @@ use std::alloc::Global;
 /// The questions on which a step rests, at most `PREMISES_MAX`, which take no memory.
 pub type Premises = SmallVec<Query, 8>;
 
-/// What the table says of a rule behind the parameters taken so far.
+/// What the table says of a rule behind a prefix of its parameters. The rule `product` at `td 4 12`, say, has first the parameter 2 to 6;
+/// behind 3 the parameter 4 to 4; behind 3, 4 no other, and its premises are `td 4 3` and `td 4 4`.
 #[derive(Drop)]
-pub enum Next {
+pub enum Branch {
     /// A parameter from `low` to `high`.
     Parameter { low: u16, high: u16 },
     /// No parameter is left and the condition holds, with these premises.
@@ -23,33 +24,33 @@ pub enum Next {
 }
 
 // No parameter is left: the premises, at most PREMISES_MAX, where the condition holds.
-pub(crate) fn when(alloc: Global, condition: bool, premises: &[Query]) -> Next
+pub(crate) fn when(alloc: Global, condition: bool, premises: &[Query]) -> Branch
     requires { length premises.now ≤ PREMISES_MAX }
-    ensures next { IsNext (when condition asks premises.now) result }
+    ensures branch { IsBranch (when condition asks premises.now) result }
     ensures few { IsFew result }
 {
     if !condition {
-        return Next::Nothing;
+        return Branch::Nothing;
     }
     match SmallVec::from_slice(alloc, premises) {
-        Ok(list) => Next::Premises(list),
+        Ok(list) => Branch::Premises(list),
         // So few take no memory.
         Err(_) => unreachable!(),
     }
 }
 
 // A parameter in a range.
-pub(crate) fn from_to(low: u16, high: u16) -> Next
+pub(crate) fn range(low: u16, high: u16) -> Branch
     ensures { Takes low high result }
 {
-    Next::Parameter { low, high }
+    Branch::Parameter { low, high }
 }
 
 // A parameter that is given by the others.
-pub(crate) fn only(x: u16) -> Next
+pub(crate) fn single(x: u16) -> Branch
     ensures { Takes x x result }
 {
-    from_to(x, x)
+    range(x, x)
 }
 
 // Whether d, which is not 0, divides n.
@@ -68,7 +69,7 @@ pub(crate) fn times(x: u16, y: u16) -> u32
 }
 
 // The quotient, and 0 where y is 0.
-pub(crate) fn over(x: u16, y: u16) -> u16
+pub(crate) fn div_or_zero(x: u16, y: u16) -> u16
     ensures value { result ≡ x / y }
     ensures bound { result ≤ x }
 {
@@ -76,7 +77,7 @@ pub(crate) fn over(x: u16, y: u16) -> u16
 }
 
 // How far x is above y, and 0 where it isn't.
-pub(crate) fn above(x: u16, y: u32) -> u16
+pub(crate) fn monus(x: u16, y: u32) -> u16
     ensures value { result ≡ x - y }
     ensures bound { result ≤ x }
 {

@@ -1,8 +1,8 @@
 use design_base::{Rule, Step};
 
-/// The parameters taken so far, which are at most four.
+/// The first parameters of a rule, at most four, as a walk through the table takes them.
 #[derive(Clone, Copy, Debug, PartialEq, Eq)]
-pub enum Taken {
+pub enum Prefix {
     Zero,
     One(u16),
     Two(u16, u16),
@@ -10,15 +10,15 @@ pub enum Taken {
     Four(u16, u16, u16, u16),
 }
 
-impl Taken {
+impl Prefix {
     ghost use Rattle.std.specs.Prelude.{◌≡◌, ◌<◌, ◌≤◌, [], ◌∷◌, ◌++◌, length};
     ghost use Rattle.design_base.specs.declared.limits.TheConstants.{PARAMETER_MAX};
     ghost use Rattle.design_base.specs.Rules.{title};
     ghost use Rattle.design_base.specs.Steps.{step_with};
-    ghost use Rattle.rule_terms.specs.Takens.{listed, IsSmall};
+    ghost use Rattle.rule_terms.specs.Prefixes.{listed, IsSmall};
 
     /// One parameter more. There is room for it, and it is within the limit of parameters.
-    pub fn with(self, x: u16) -> Taken
+    pub fn with(self, x: u16) -> Prefix
         requires room { length (listed self) < 4 }
         requires small { IsSmall self }
         requires x_small { x ≤ PARAMETER_MAX }
@@ -26,11 +26,11 @@ impl Taken {
         ensures small { IsSmall result }
     {
         match self {
-            Taken::Zero => Taken::One(x),
-            Taken::One(a) => Taken::Two(a, x),
-            Taken::Two(a, b) => Taken::Three(a, b, x),
-            Taken::Three(a, b, c) => Taken::Four(a, b, c, x),
-            Taken::Four(_, _, _, _) => unreachable!(),
+            Prefix::Zero => Prefix::One(x),
+            Prefix::One(a) => Prefix::Two(a, x),
+            Prefix::Two(a, b) => Prefix::Three(a, b, x),
+            Prefix::Three(a, b, c) => Prefix::Four(a, b, c, x),
+            Prefix::Four(_, _, _, _) => unreachable!(),
         }
     }
 
@@ -41,11 +41,11 @@ impl Taken {
         ensures { result ≡ step_with rule (listed self) }
     {
         match self {
-            Taken::Zero => Step::new(rule, 0, 0, 0, 0),
-            Taken::One(a) => Step::new(rule, a, 0, 0, 0),
-            Taken::Two(a, b) => Step::new(rule, a, b, 0, 0),
-            Taken::Three(a, b, c) => Step::new(rule, a, b, c, 0),
-            Taken::Four(a, b, c, d) => Step::new(rule, a, b, c, d),
+            Prefix::Zero => Step::new(rule, 0, 0, 0, 0),
+            Prefix::One(a) => Step::new(rule, a, 0, 0, 0),
+            Prefix::Two(a, b) => Step::new(rule, a, b, 0, 0),
+            Prefix::Three(a, b, c) => Step::new(rule, a, b, c, 0),
+            Prefix::Four(a, b, c, d) => Step::new(rule, a, b, c, d),
         }
     }
 }
