@@ -15,7 +15,7 @@ use Rattle.catalogues.specs.declared.outcome.ConsultEnd.TheVariants.{Failed, Mem
 use Rattle.catalogues.specs.declared.outcome.Rejected.{Rejected}
 use Rattle.design_answers.specs.Answered.{AnswersOn, LeavesTold}
 use Rattle.design_answers.specs.Offers.{consulted_report, counted, ending_at_consult, handed_lines, handed_report, offers_report, refused_lines, valid_lines}
-use Rattle.design_answers.specs.Unread.{ask_report, asks_some, build_report, design_lines, left_by, lists_after, unread_report}
+use Rattle.design_answers.specs.Requests.{ask_report, asks_some, build_report, design_lines, left_by, lists_after, request_report}
 use Rattle.design_base.specs.declared.query.Query.{Query}
 use Rattle.design_base.specs.Steps.{Step}
 use Rattle.design_base.specs.declared.verdict.Criterion.{Criterion}
@@ -24,10 +24,10 @@ use Rattle.design_base.specs.declared.verdict.Verdict.TheVariants.{Yes as YesVer
 use Rattle.design_io.proofs.Pieces.{AppendsPart-first, AppendsPart-second}
 use Rattle.design_io.specs.Pieces.{AppendsPart}
 use Rattle.design_reports.proofs.Outputs.{output_of_both}
-use Rattle.design_lines.specs.declared.command.Command.{Command}
+use Rattle.design_lines.specs.declared.command.Request.{Request}
 use Rattle.design_lines.specs.declared.command.Shape.{Shape}
 use Rattle.design_reports.specs.Answers.{EndsWith}
-use Rattle.design_reports.specs.Reports.{Report, output, silent, verdict_report}
+use Rattle.design_reports.specs.Reports.{Report, output, verdict_report}
 use Rattle.design_reports.specs.Texts.{refused_offer_line, verdict_line}
 use Rattle.design_reports.specs.declared.ending.Ending.{Ending}
 use Rattle.design_reports.specs.declared.ending.Ending.TheVariants.{Yes, No, Unknown, Refused, NotBuilt, BadInput, ReadFault, CatalogueFault, NoMemory, WriteFault}
@@ -93,10 +93,10 @@ unasked_on seen report ending held now ends =
     let some = some_held seen in
     record { lists = some.0; are_held = some.1; ends = ends; leaves = still_told ending seen some.0 }
 
--- the same of a command whose report hangs on none, and which leaves them as they are
-pub unread_on : (command : Command) (seen : List Seen) (report : Report) (ending : Ending) (held now : Option (List ℕ)) → ((lists : List (List Entry)) → unread_report command lists ≡ report) → ((lists : List (List Entry)) → lists_after command lists ≡ lists)
-    → EndsWith report ending held now → AnswersOn seen seen (unread_report command) (lists_after command) ending held now
-unread_on command seen report ending held now is after ends =
+-- the same of a request whose report hangs on none, and which leaves them as they are
+pub request_on : (request : Request) (seen : List Seen) (report : Report) (ending : Ending) (held now : Option (List ℕ)) → ((lists : List (List Entry)) → request_report request lists ≡ report) → ((lists : List (List Entry)) → lists_after request lists ≡ lists)
+    → EndsWith report ending held now → AnswersOn seen seen (request_report request) (lists_after request) ending held now
+request_on request seen report ending held now is after ends =
     let some = some_held seen in
     record {
       lists = some.0;
@@ -104,12 +104,6 @@ unread_on command seen report ending held now is after ends =
       ends = subst (λ r. EndsWith r ending held now) (sym (is some.0)) ends;
       leaves = λ told. subst (LeavesTold ending seen) (sym (after some.0)) (still_told ending seen some.0 told);
     }
-
--- a command that no line answers yet
-pub unbuilt_on : (command : Command) (seen : List Seen) (other : Command) (held : Option (List ℕ)) → command ≡ other → ((lists : List (List Entry)) → unread_report other lists ≡ silent NotBuilt) → ((lists : List (List Entry)) → lists_after other lists ≡ lists)
-    → AnswersOn seen seen (unread_report command) (lists_after command) NotBuilt held held
-unbuilt_on command seen other held is report after =
-    subst (λ c. AnswersOn seen seen (unread_report c) (lists_after c) NotBuilt held held) (sym is) (unread_on other seen (silent NotBuilt) NotBuilt held held report after (refl, Appends-nil held))
 
 -- what catalogues offered
 module _ (q : Query) (old new : List Seen) (refused : List Rejected) (valid : Option (ℕ × List (List ℕ))) (found : IsConsulted q old new refused valid) (ending : Ending) (held now : Option (List ℕ)) where

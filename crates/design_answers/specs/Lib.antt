@@ -1,4 +1,4 @@
 pub mod Draws
 pub mod Offers
-pub mod Unread
+pub mod Requests
 pub mod Answered

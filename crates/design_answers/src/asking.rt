@@ -6,7 +6,7 @@ ghost use Rattle.catalogues.specs.Left.{AreLeft};
 ghost use Rattle.design_answers.specs.Answered.{AnswersOn, HasOfferFault};
 ghost use Rattle.design_answers.specs.Draws.{is_unknown};
 ghost use Rattle.design_answers.specs.Offers.{consulted_report};
-ghost use Rattle.design_answers.specs.Unread.{ask_report, asks_some, left_by};
+ghost use Rattle.design_answers.specs.Requests.{ask_report, asks_some, left_by};
 ghost use Rattle.design_base.specs.Limits.{in_bounds};
 ghost use Rattle.design_reports.specs.Answers.{HasFault, IsAnswer};
 ghost use Rattle.rule_table.specs.Verdicts.{verdict as verdict_of};

@@ -11,7 +11,7 @@ ghost use Rattle.derivations.specs.Spelled.{ArePrintable};
 ghost use Rattle.design_answers.specs.Answered.{AnswersOn, HasOfferFault};
 ghost use Rattle.design_answers.specs.Draws.{is_unknown};
 ghost use Rattle.design_answers.specs.Offers.{handed_report};
-ghost use Rattle.design_answers.specs.Unread.{build_report, built_lines, design_lines, left_by};
+ghost use Rattle.design_answers.specs.Requests.{build_report, built_lines, design_lines, left_by};
 ghost use Rattle.design_io.specs.Faults.{HasCause};
 ghost use Rattle.design_io.specs.Pieces.{AppendsWhole};
 ghost use Rattle.design_reports.specs.Answers.{EndsWith, HasFault, IsAnswer};

@@ -1,6 +1,6 @@
 //! The answer to `closure`: the verdict, and how many questions it rests on.
 ghost use Rattle.std.specs.Prelude.{◌≡◌, ◌≢◌, ◌++◌, codes, true, ℕ};
-ghost use Rattle.design_answers.specs.Unread.{closure_lines};
+ghost use Rattle.design_answers.specs.Requests.{closure_lines};
 ghost use Rattle.design_base.specs.Limits.{in_bounds};
 ghost use Rattle.design_io.specs.Faults.{HasCause};
 ghost use Rattle.design_io.specs.Pieces.{AppendsWhole};

@@ -5,7 +5,7 @@ ghost use Rattle.criteria.specs.Criteria.{criterion_of, numbers_of};
 ghost use Rattle.derivation_text.specs.Text.{derivation_lines};
 ghost use Rattle.design_base.specs.Limits.{in_bounds};
 ghost use Rattle.derivations.specs.Spelled.{ArePrintable};
-ghost use Rattle.design_answers.specs.Unread.{reason_lines};
+ghost use Rattle.design_answers.specs.Requests.{reason_lines};
 ghost use Rattle.design_io.specs.Faults.{HasCause};
 ghost use Rattle.design_io.specs.Pieces.{AppendsWhole};
 ghost use Rattle.design_reports.specs.Answers.{EndsWith, HasFault, IsAnswer};

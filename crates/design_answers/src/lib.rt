@@ -1,5 +1,5 @@
-//! The answers to commands that leave the input unread: the verdict on a question, why it is so, its design, what catalogues offer
-//! for it, what it rests on, and the count of many verdicts.
+//! The answers of the table of rules: the verdict on a question, why it is so, its design, what catalogues offer for it, what it rests on,
+//! and the count of many verdicts.
 #![tactic(auto)]
 
 mod answering;
@@ -13,8 +13,9 @@ mod oracle;
 mod tally;
 mod workload;
 
-pub use answering::answer_unread;
+pub use answering::answer_request;
 pub use oracle::Oracle;
+pub use workload::answer_workload;
 
 #[cfg(test)]
 mod tests;

@@ -1,10 +1,10 @@
 // What is answered on the output, one line after another of one oracle.
 ghost use Rattle.std.specs.Prelude.{◌≡◌, ◌<◌, ◌^◌, length};
 
-use crate::{Oracle, answer_unread};
+use crate::{Oracle, answer_request, answer_workload};
 use catalogues::{Catalogue, SourceCatalogue};
 use design_io::{MemorySink, MemorySource};
-use design_lines::read_words;
+use design_lines::{Command, read_words};
 use design_reports::Ending;
 use rule_table::{Notes, Steps};
 use std::alloc::{AllocError, Global};
@@ -48,13 +48,14 @@ fn holds<L: Ledger>(
     requires { length catalogues.old.items < 2 ^ 32 }
 {
     let words = words_of(alloc, row.line)?;
-    let Ok(command) = read_words(&words) else {
-        return Ok(false);
-    };
     let Ok(mut out) = MemorySink::new(alloc, 4096, vec![in alloc; row.failing]?) else {
         return Err(AllocError);
     };
-    let ending = answer_unread(command, catalogues, oracle, &mut out);
+    let ending = match read_words(&words) {
+        Ok(Command::On(request)) => answer_request(request, catalogues, oracle, &mut out),
+        Ok(Command::Workload { n }) => answer_workload(n, oracle, &mut out),
+        _ => return Ok(false),
+    };
     Ok(ending == row.ending && out.bytes() == row.output.as_bytes())
 }
 

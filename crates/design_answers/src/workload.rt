@@ -1,6 +1,6 @@
 //! The answer to `workload`: how many draws have which verdict, and how many questions their closures have.
 ghost use Rattle.std.specs.Prelude.{◌≡◌, ◌≢◌, ◌++◌, codes, true, ℕ};
-ghost use Rattle.design_answers.specs.Unread.{workload_report};
+ghost use Rattle.design_answers.specs.Requests.{workload_report};
 ghost use Rattle.design_base.specs.Limits.{within};
 ghost use Rattle.design_base.specs.declared.limits.TheConstants.{WORKLOAD_MAX};
 ghost use Rattle.design_io.specs.Faults.{HasCause};

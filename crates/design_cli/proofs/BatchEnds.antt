@@ -14,7 +14,7 @@ use Rattle.catalogues.specs.Consulted.{AreHeld, AreTold}
 use Rattle.catalogues.specs.Entries.{Seen}
 use Rattle.catalogues.specs.declared.catalogue.Entry.{Entry}
 use Rattle.design_answers.specs.Answered.{HasOfferFault}
-use Rattle.design_answers.specs.Unread.{IsRefused}
+use Rattle.design_answers.specs.Requests.{IsRefused}
 use Rattle.design_base.specs.declared.limits.TheConstants.{INPUT_MAX}
 use Rattle.design_io.proofs.LinesInFront.{long_text}
 use Rattle.design_io.proofs.Pieces.{AppendsPart-first, AppendsPart-second}
@@ -22,7 +22,7 @@ use Rattle.design_io.specs.Inputs.{IsInput}
 use Rattle.design_io.specs.Pieces.{AppendsPart}
 use Rattle.design_io.specs.declared.lines.LineEnd.TheVariants.{Failed, TooLong}
 use Rattle.design_io.specs.InputLines.{InputLine, LinesRead, GivesFrom, content_of, feeds_in, first_line, fits, is_feed, lines_of, size_of, too_long}
-use Rattle.design_lines.specs.Grammar.{parse_in_batch}
+use Rattle.design_lines.specs.CommandLines.{parse_in_batch}
 use Rattle.design_lines.specs.declared.command.Command.TheVariants.{Batch}
 use Rattle.design_reports.specs.Answers.{EndsCut}
 use Rattle.design_reports.specs.Endings.{status_of}

@@ -14,7 +14,7 @@ use Rattle.catalogues.specs.Entries.{Seen}
 use Rattle.catalogues.specs.Left.{AreLeft}
 use Rattle.catalogues.specs.declared.catalogue.Entry.{Entry}
 use Rattle.design_answers.specs.Answered.{AnswersOn, HasOfferFault, LeavesTold}
-use Rattle.design_answers.specs.Unread.{asks_catalogues, lists_after, unread_report}
+use Rattle.design_answers.specs.Requests.{asks_catalogues, lists_after, request_report}
 use Rattle.design_base.specs.declared.limits.TheConstants.{INPUT_MAX, LINE_MAX}
 use Rattle.design_io.proofs.LinesInFront.{line_in_front}
 use Rattle.design_io.proofs.LinesOfText.{does_fit}
@@ -23,8 +23,8 @@ use Rattle.design_io.specs.Inputs.{IsInput}
 use Rattle.design_io.specs.Pieces.{AppendsPart}
 use Rattle.design_io.specs.declared.lines.LineEnd.{LineEnd}
 use Rattle.design_io.specs.InputLines.{InputLine, LinesRead, GivesFrom, bytes_of, content_of, feeds_in, first_line, fits, is_feed, lines_of, new_reader, next_line, size_of, too_long}
-use Rattle.design_lines.specs.Grammar.{parse_in_batch}
-use Rattle.design_lines.specs.declared.command.Command.{Command}
+use Rattle.design_lines.specs.CommandLines.{parse_in_batch}
+use Rattle.design_lines.specs.declared.command.Request.{Request}
 use Rattle.design_lines.specs.declared.command.Reason.{Reason}
 use Rattle.design_reports.specs.Answers.{EndsWith}
 use Rattle.design_reports.specs.Endings.{message_of}
@@ -314,11 +314,11 @@ is_given rest reader new after given is told over lines room some short alone en
 }
 
 -- the answer to a line and what is left behind it, by what was read of it
-pub answer_is : (line : List ℕ) (read : Result (Option Command) Reason) (lists : List (List Entry)) → read ≡ parse_in_batch line → line_answer lists line ≡ written (line_report read lists)
+pub answer_is : (line : List ℕ) (read : Result (Option Request) Reason) (lists : List (List Entry)) → read ≡ parse_in_batch line → line_answer lists line ≡ written (line_report read lists)
 unfolding line_answer
 answer_is line read lists is = ap (λ r. written (line_report r lists)) (sym is)
 
-pub behind_is : (line : List ℕ) (read : Result (Option Command) Reason) (lists : List (List Entry)) → read ≡ parse_in_batch line → lists_behind line lists ≡ left_after read lists
+pub behind_is : (line : List ℕ) (read : Result (Option Request) Reason) (lists : List (List Entry)) → read ≡ parse_in_batch line → lists_behind line lists ≡ left_after read lists
 unfolding lists_behind
 behind_is line read lists is = ap (λ r. left_after r lists) (sym is)
 
@@ -354,17 +354,17 @@ blank_line line seen held is =
     let some = some_held seen in
     record { lists = some.0; are_held = some.1; ends = rw (blank_is line some.0 is) (Appends-nil held); leaves = λ told. rw (behind_is line (Ok None) some.0 is) told }
 
--- a command
-module _ (line : List ℕ) (command : Command) (is : Ok (Some command) ≡ parse_in_batch line) (old new : List Seen) where
-  pub command_line : (ending : Ending) (result : Result (Unit {0}) Stop) (held mid now : Option (List ℕ)) → AnswersOn old new (unread_report command) (lists_after command) ending held mid
+-- a request
+module _ (line : List ℕ) (request : Request) (is : Ok (Some request) ≡ parse_in_batch line) (old new : List Seen) where
+  pub request_line : (ending : Ending) (result : Result (Unit {0}) Stop) (held mid now : Option (List ℕ)) → AnswersOn old new (request_report request) (lists_after request) ending held mid
       → ((report : Report) (before : Option (List ℕ)) → EndsWith report ending before mid → EndsLine (written report) result before now) → ((seen : List Seen) (entries : List (List Entry)) → LeavesTold ending seen entries → LeavesLine result seen entries)
       → AnswersLine line old new result held now
-  command_line ending result held mid now on ends leaves = record {
+  request_line ending result held mid now on ends leaves = record {
     lists = on.lists;
     are_held = on.are_held;
-    ends = rw (answer_is line (Ok (Some command)) on.lists is) (ends (unread_report command on.lists) held on.ends);
-    leaves = λ told. rw (behind_is line (Ok (Some command)) on.lists is) (leaves new (lists_after command on.lists) (on.leaves told));
+    ends = rw (answer_is line (Ok (Some request)) on.lists is) (ends (request_report request on.lists) held on.ends);
+    leaves = λ told. rw (behind_is line (Ok (Some request)) on.lists is) (leaves new (lists_after request on.lists) (on.leaves told));
   }
 
-  pub command_fault : (number : ℕ) → HasOfferFault (asks_catalogues command) old new number → HasOfferFault (line_asks (parse_in_batch line)) old new number
-  command_fault number fault = subst (λ read. HasOfferFault (line_asks read) old new number) is fault
+  pub request_fault : (number : ℕ) → HasOfferFault (asks_catalogues request) old new number → HasOfferFault (line_asks (parse_in_batch line)) old new number
+  request_fault number fault = subst (λ read. HasOfferFault (line_asks read) old new number) is fault

@@ -1,4 +1,4 @@
--- What is said of blocks is so: those of a yes are such a design, and exactly such are found valid.
+-- What is said of blocks is so: those of a yes and of a sound derivation are such a design, and exactly such are found valid.
 use Rattle.std.proofs.Common.{◌≡◌, ◌↔◌, ℕ, ◌+◌, ◌-◌, List, Option, Some, None, ap, arith, refl, subst, sym}
 use Rattle.arrays.proofs.Bounds.{td_bounds}
 use Rattle.arrays.proofs.Passages.{td_iff_oa}
@@ -9,8 +9,10 @@ use Rattle.arrays.specs.Lines.{bad_line, bad_row}
 use Rattle.design_base.specs.Arrays.{IsOa, blocks_of_rows}
 use Rattle.design_base.specs.Blocks.{IsTd}
 use Rattle.design_base.specs.Canonical.{canonical}
-use Rattle.derivations.proofs.Sound.{yes_has_a_design}
-use Rattle.derivations.specs.Laws.{YesLaw}
+use Rattle.arrays.proofs.TdRows.{array_in_order, mols}
+use Rattle.derivations.proofs.Replays.{replayed_meets}
+use Rattle.derivations.proofs.Sound.{derivation_is_sound, yes_has_a_design}
+use Rattle.derivations.specs.Laws.{DerivationLaw, ReplayLaw, YesLaw}
 use Rattle.rule_table.specs.Verdicts.{is_yes}
 use Rattle.design_base.specs.Squares.{IsMols}
 use Rattle.design_checks.specs.declared.finding.Finding.{Finding}
@@ -19,10 +21,22 @@ use Rattle.design_cli.specs.LineFindings.{line_finding}
 use Rattle.design_base.specs.declared.query.Query.TheVariants.{Td}
 use Rattle.design_checks.proofs.Meeting.{found_meets}
 use Rattle.design_checks.specs.Findings.{finding}
-use Rattle.design_cli.specs.Laws.{ValidLaw, ValidRowsLaw, ValidSquaresLaw}
+use Rattle.design_cli.specs.Laws.{PrintedRowsLaw, PrintedSquaresLaw, ValidLaw, ValidRowsLaw, ValidSquaresLaw}
 
 pub yes_is_designed : YesLaw
 yes_is_designed q s bounds is = yes_has_a_design q bounds (ap is_yes is)
+
+pub sound_is_designed : ReplayLaw
+sound_is_designed = replayed_meets
+
+pub yes_is_derived : DerivationLaw
+yes_is_derived q s bounds is = derivation_is_sound q bounds (ap is_yes is)
+
+pub printed_rows : PrintedRowsLaw
+printed_rows k n bounds B td = array_in_order k n B (td_bounds k n bounds) td
+
+pub printed_squares : PrintedSquaresLaw
+printed_squares k n bounds B td = mols k n B (td_bounds k n bounds) td
 
 pub valid_is_design : ValidLaw
 valid_is_design q B = found_meets q B (finding q B) refl

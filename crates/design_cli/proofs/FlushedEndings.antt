@@ -1,5 +1,5 @@
 -- How an answer ends that was collected in a buffer, once the buffer is flushed.
-use Rattle.std.proofs.Common.{◌≡◌, ◌≢◌, ℕ, ◌≤◌, List, [], ◌++◌, length, take, drop, Option, Some, Result, Ok, Err, refl, subst, sym, ap, ◌∙◌, arith}
+use Rattle.std.proofs.Common.{◌≡◌, ◌≢◌, ℕ, ◌≤◌, Bool, true, false, List, [], ◌++◌, length, take, drop, Option, Some, Result, Ok, Err, refl, subst, sym, ap, ◌∙◌, arith}
 use Rattle.std.proofs.lemmas.List.{take-append-drop}
 use Rattle.std.proofs.lemmas.List.Concat.{flat_map-append}
 use Rattle.std.specs.Io.KnownBytes.{Appends, Keeps}
@@ -7,25 +7,22 @@ use Rattle.std.specs.List.{flat_map}
 use Rattle.std.specs.Result.{OnErr, OnOk}
 use Rattle.catalogues.specs.Entries.{Seen}
 use Rattle.catalogues.specs.declared.catalogue.Entry.{Entry}
-use Rattle.design_answers.specs.Unread.{IsRefused}
+use Rattle.design_answers.specs.Requests.{IsRefused}
 use Rattle.design_io.proofs.HandedOn.{AppendsPart-on, Keeps-on}
 use Rattle.design_io.proofs.Pieces.{AppendsPart-first}
 use Rattle.design_io.specs.Faults.{HasCause, Rose}
 use Rattle.design_io.specs.Pieces.{AppendsPart, AppendsWhole}
 use Rattle.design_io.specs.declared.streams.Failed.{Failed}
 use Rattle.design_lines.specs.declared.command.Command.{Command}
-use Rattle.design_lines.specs.declared.command.Command.TheVariants.{On, Replay, Batch, Table, Workload}
 use Rattle.design_lines.specs.declared.command.Reason.{Reason}
-use Rattle.design_lines.specs.declared.command.Verb.TheVariants.{Ask, Build, Check, Closure, Explain}
 use Rattle.design_reports.specs.Answers.{HasFault}
 use Rattle.design_reports.specs.Reports.{Report, output}
 use Rattle.design_reports.specs.declared.ending.Ending.{Ending}
 use Rattle.design_reports.specs.declared.ending.Ending.TheVariants.{Yes, No, Unknown, Refused, NotBuilt, BadInput, ReadFault, CatalogueFault, NoMemory, WriteFault}
-use Rattle.design_cli.proofs.Endings.{check_answers}
-use Rattle.design_cli.proofs.Runnings.{replay_answers, rules_answer}
+use Rattle.design_cli.proofs.Runnings.{refused_silent}
 use Rattle.design_cli.specs.Batches.{AppendsFirst}
-use Rattle.design_cli.specs.Report.{command_report}
-use Rattle.design_cli.specs.Runs.{AnswerEnds, Answers, IsCount, Stands}
+use Rattle.design_cli.specs.Report.{OfBatch, command_report, is_batch}
+use Rattle.design_cli.specs.Runs.{AnswerEnds, Answers, IsCount, IsLineCount, Stands}
 
 -- All was handed on.
 module _ (a b : Option (List ℕ)) (handed : List ℕ) (on : Appends a b handed) where
@@ -40,12 +37,11 @@ module _ (a b : Option (List ℕ)) (handed : List ℕ) (on : Appends a b handed)
 
   -- what stands of an answer that was cut
   moved_stands : (command : Result Command Reason) (count : ℕ) (report : Report) → Stands command count report (Some []) (Some handed) → Stands command count report a b
-  moved_stands (Err reason) count report stands = kept stands
-  moved_stands (Ok (On verb q shape)) count report stands = kept stands
-  moved_stands (Ok Replay) count report stands = kept stands
-  moved_stands (Ok Batch) count report stands = moved _ stands
-  moved_stands (Ok (Workload n)) count report stands = kept stands
-  moved_stands (Ok (Table ask workers)) count report stands = kept stands
+  moved_stands command count report stands = of (is_batch command) stands
+    where
+      of : (batch : Bool) → OfBatch batch (AppendsFirst count (Some []) (Some handed) report.lines) (Keeps (Some []) (Some handed)) → OfBatch batch (AppendsFirst count a b report.lines) (Keeps a b)
+      of true stands = moved _ stands
+      of false stands = kept stands
 
   moved_ends : (command : Result Command Reason) (count : ℕ) (report : Report) (ending : Ending) → AnswerEnds command count report ending (Some []) (Some handed) → AnswerEnds command count report ending a b
   moved_ends command count report Yes ends = (ends.0, moved (output report) ends.1)
@@ -77,12 +73,11 @@ module _ (a b : Option (List ℕ)) (handed : List ℕ) (e : Failed) (part : Appe
       rw is (AppendsPart-first (flat_map (λ answer. answer) later) (cut (flat_map (λ answer. answer) first) appended))
 
   cut_stands : (command : Result Command Reason) (count : ℕ) (report : Report) → Stands command count report (Some []) (Some handed) → AppendsPart a b (output report)
-  cut_stands (Err reason) count report stands = absurd (none_kept stands)
-  cut_stands (Ok (On verb q shape)) count report stands = absurd (none_kept stands)
-  cut_stands (Ok Replay) count report stands = absurd (none_kept stands)
-  cut_stands (Ok Batch) count report stands = cut_first count report.lines stands
-  cut_stands (Ok (Workload n)) count report stands = absurd (none_kept stands)
-  cut_stands (Ok (Table ask workers)) count report stands = absurd (none_kept stands)
+  cut_stands command count report stands = of (is_batch command) stands
+    where
+      of : (batch : Bool) → OfBatch batch (AppendsFirst count (Some []) (Some handed) report.lines) (Keeps (Some []) (Some handed)) → AppendsPart a b (output report)
+      of true stands = cut_first count report.lines stands
+      of false stands = absurd (none_kept stands)
 
   cut_ends : (command : Result Command Reason) (count : ℕ) (report : Report) (ending : Ending) → AnswerEnds command count report ending (Some []) (Some handed) → AppendsPart a b (output report)
   cut_ends command count report Yes ends = cut (output report) ends.1
@@ -96,27 +91,13 @@ module _ (a b : Option (List ℕ)) (handed : List ℕ) (e : Failed) (part : Appe
   cut_ends command count report NoMemory ends = cut_stands command count report ends
   cut_ends command count report WriteFault ends = AppendsPart-on {T = Unit {0}} a b (Err e) handed (output report) ends part
 
--- nothing is written where the words are refused
-refused_silent : (command : Result Command Reason) (text : List ℕ) (lists : List (List (List Entry))) → IsRefused (command_report command text lists) → output (command_report command text lists) ≡ []
-refused_silent (Err reason) text lists e = refl
-refused_silent (Ok (On Check q shape)) text lists e = absurd (check_answers q shape text e)
-refused_silent (Ok (On Ask q shape)) text lists e = absurd (rules_answer (On Ask q shape) refl text lists e)
-refused_silent (Ok (On Build q shape)) text lists e = absurd (rules_answer (On Build q shape) refl text lists e)
-refused_silent (Ok (On Explain q shape)) text lists e = absurd (rules_answer (On Explain q shape) refl text lists e)
-refused_silent (Ok (On Closure q shape)) text lists e = absurd (rules_answer (On Closure q shape) refl text lists e)
-refused_silent (Ok Replay) text lists e = absurd (replay_answers text e)
-refused_silent (Ok Batch) text lists e = absurd (rules_answer Batch refl text lists e)
-refused_silent (Ok (Workload n)) text lists e = absurd (rules_answer (Workload n) refl text lists e)
-refused_silent (Ok (Table ask workers)) text lists e = refl
-
 -- a flush that fails leaves the catalogues and the count of lines as they are
 count_flushed : (command : Result Command Reason) (text : List ℕ) (after : Option (List ℕ)) (report : Report) (ending : Ending) (count : ℕ) → IsCount command text after report ending count → IsCount command text after report WriteFault count
-count_flushed (Err reason) text after report ending count is = is
-count_flushed (Ok (On verb q shape)) text after report ending count is = is
-count_flushed (Ok Replay) text after report ending count is = is
-count_flushed (Ok Batch) text after report ending count is = tt
-count_flushed (Ok (Workload n)) text after report ending count is = is
-count_flushed (Ok (Table ask workers)) text after report ending count is = is
+count_flushed command text after report ending count is = of (is_batch command) is
+  where
+    of : (batch : Bool) → OfBatch batch (IsLineCount text after report ending count) (count ≡ 1) → OfBatch batch (IsLineCount text after report WriteFault count) (count ≡ 1)
+    of true is = tt
+    of false is = is
 
 no_part : (a b : Option (List ℕ)) (bs : List ℕ) → AppendsPart a b bs → bs ≢ []
 no_part a b bs part is = absurd (omega (arith, part.short, ap length is))

@@ -5,14 +5,14 @@ use Rattle.std.specs.Io.KnownBytes.{Appends, Keeps}
 use Rattle.catalogues.specs.Consulted.{AreHeld, AreTold}
 use Rattle.catalogues.specs.Entries.{Seen}
 use Rattle.catalogues.specs.declared.catalogue.Entry.{Entry}
-use Rattle.design_answers.specs.Unread.{asks_catalogues, lists_after, unread_report}
+use Rattle.design_answers.specs.Requests.{asks_catalogues, lists_after, request_report}
 use Rattle.design_base.specs.declared.limits.TheConstants.{INPUT_MAX}
 use Rattle.design_io.specs.Faults.{Rose}
 use Rattle.design_io.specs.Inputs.{IsInput}
 use Rattle.design_io.specs.InputLines.{InputLine, content_of, feeds_in, fits, lines_of, size_of}
 use Rattle.design_io.specs.Pieces.{AppendsPart}
-use Rattle.design_lines.specs.Grammar.{parse_in_batch}
-use Rattle.design_lines.specs.declared.command.Command.{Command}
+use Rattle.design_lines.specs.CommandLines.{parse_in_batch}
+use Rattle.design_lines.specs.declared.command.Request.{Request}
 use Rattle.design_lines.specs.declared.command.Reason.{Reason}
 use Rattle.design_reports.specs.Endings.{message_of}
 use Rattle.design_reports.specs.Reports.{Report, output, silent}
@@ -21,10 +21,10 @@ use Rattle.design_cli.specs.declared.batching.Stop.{Stop}
 use Rattle.design_cli.specs.declared.batching.Stop.TheVariants.{Catalogue, Memory, Write}
 
 -- the report on a line, by what is read of it; a line without a word has nothing to answer
-abbrev pub line_report : Result (Option Command) Reason → List (List Entry) → Report
+abbrev pub line_report : Result (Option Request) Reason → List (List Entry) → Report
 line_report (Err reason) lists = silent (Refused reason)
 line_report (Ok None) lists = silent Yes
-line_report (Ok (Some command)) lists = unread_report command lists
+line_report (Ok (Some request)) lists = request_report request lists
 
 -- what is written of a report in a batch: why a line is refused stands on the output
 abbrev pub written : Report → List ℕ
@@ -35,19 +35,19 @@ unfoldable pub line_answer : List (List Entry) → List ℕ → List ℕ
 line_answer lists line = written (line_report (parse_in_batch line) lists)
 
 -- what the catalogues hold behind a line, by what is read of it
-abbrev pub left_after : Result (Option Command) Reason → List (List Entry) → List (List Entry)
+abbrev pub left_after : Result (Option Request) Reason → List (List Entry) → List (List Entry)
 left_after (Err reason) lists = lists
 left_after (Ok None) lists = lists
-left_after (Ok (Some command)) lists = lists_after command lists
+left_after (Ok (Some request)) lists = lists_after request lists
 
 unfoldable pub lists_behind : List ℕ → List (List Entry) → List (List Entry)
 lists_behind line lists = left_after (parse_in_batch line) lists
 
 -- whether a line asks the catalogues
-abbrev pub line_asks : Result (Option Command) Reason → Bool
+abbrev pub line_asks : Result (Option Request) Reason → Bool
 line_asks (Err reason) = false
 line_asks (Ok None) = false
-line_asks (Ok (Some command)) = asks_catalogues command
+line_asks (Ok (Some request)) = asks_catalogues request
 
 -- an answer in front of those of a report
 abbrev pub in_front : List ℕ → Report → Report

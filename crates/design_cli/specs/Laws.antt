@@ -1,6 +1,8 @@
--- What a check that finds no fault means.
+-- What a check that finds no fault means, and what is printed of a transversal design.
 use Rattle.std.specs.Prelude.{ℕ, ◌-◌, ◌≡◌, ◌↔◌, true, List}
-use Rattle.design_base.specs.Arrays.{IsOa}
+use Rattle.arrays.specs.Arrays.{rows_of_td, squares_of_rows}
+use Rattle.design_base.specs.Arrays.{IsOa, rows_of_blocks}
+use Rattle.design_base.specs.Blocks.{IsTd}
 use Rattle.design_base.specs.Limits.{in_bounds}
 use Rattle.design_base.specs.Meets.{Meets}
 use Rattle.design_base.specs.Squares.{IsMols}
@@ -22,3 +24,11 @@ ValidRowsLaw = (k n : ℕ) → in_bounds (Td k n) ≡ true → (R : List (List �
 -- squares are found valid exactly where they are mutually orthogonal Latin squares
 abbrev pub ValidSquaresLaw : Type 0
 ValidSquaresLaw = (k n : ℕ) → in_bounds (Td k n) ≡ true → (L : List (List ℕ)) → (lines_finding (Td k n) Squares L ≡ Valid) ↔ IsMols L n (k - 2)
+
+-- the rows that are printed of a transversal design are an orthogonal array
+abbrev pub PrintedRowsLaw : Type 0
+PrintedRowsLaw = (k n : ℕ) → in_bounds (Td k n) ≡ true → (B : List (List ℕ)) → IsTd B k n → IsOa (rows_of_td n B) k n
+
+-- and the squares are mutually orthogonal Latin squares
+abbrev pub PrintedSquaresLaw : Type 0
+PrintedSquaresLaw = (k n : ℕ) → in_bounds (Td k n) ≡ true → (B : List (List ℕ)) → IsTd B k n → IsMols (squares_of_rows (k - 2) n (rows_of_blocks n B)) n (k - 2)

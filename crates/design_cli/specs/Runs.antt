@@ -1,5 +1,5 @@
 -- How a run ends, against the report on its input.
-use Rattle.std.specs.Prelude.{◌≡◌, ◌↔◌, ℕ, ◌+◌, Bool, List, [], length, get_or, Option, Result, Ok, ⊤, true}
+use Rattle.std.specs.Prelude.{◌≡◌, ◌↔◌, ℕ, ◌+◌, Bool, List, [], length, get_or, Option, Result, ⊤, true}
 use Rattle.std.specs.Io.KnownBytes.{Keeps}
 use Rattle.catalogues.specs.Consulted.{AreHeld, AreTold}
 use Rattle.catalogues.specs.Consults.{HasFailed}
@@ -9,7 +9,6 @@ use Rattle.catalogues.specs.declared.catalogue.Entry.{Entry}
 use Rattle.design_io.specs.Inputs.{IsInput}
 use Rattle.design_io.specs.Pieces.{AppendsPart}
 use Rattle.design_lines.specs.declared.command.Command.{Command}
-use Rattle.design_lines.specs.declared.command.Command.TheVariants.{Batch}
 use Rattle.design_lines.specs.declared.command.Reason.{Reason}
 use Rattle.design_reports.specs.Answers.{EndsCut, EndsWith}
 use Rattle.design_reports.specs.Endings.{message_of, status_of}
@@ -18,25 +17,26 @@ use Rattle.design_reports.specs.declared.ending.Ending.{Ending}
 use Rattle.design_reports.specs.declared.ending.Ending.TheVariants.{CatalogueFault, NoMemory, ReadFault, WriteFault}
 use Rattle.design_reports.specs.declared.status.Status.{Status}
 use Rattle.design_reports.specs.declared.status.Status.TheVariants.{Usage}
-use Rattle.design_answers.specs.Unread.{IsRefused}
+use Rattle.design_answers.specs.Requests.{IsRefused}
 use Rattle.design_cli.specs.Batches.{AppendsFirst, AreTaken}
-use Rattle.design_cli.specs.Report.{asks_offers, command_lists, command_report}
+use Rattle.design_cli.specs.Report.{OfBatch, asks_offers, command_lists, command_report, is_batch}
 
 -- What stands of a report where the answer to the command was cut, for want of memory, by a read or by an offer that failed: of a batch the
 -- answers to its first lines. Of any other nothing, since all memory is taken, all input is read and all catalogues are asked before the first byte.
 abbrev pub Stands : Result Command Reason → ℕ → Report → Option (List ℕ) → Option (List ℕ) → Type 0
-Stands (Ok Batch) count report old new = AppendsFirst count old new report.lines
-Stands command count report old new = Keeps old new
+Stands command count report old new = OfBatch (is_batch command) (AppendsFirst count old new report.lines) (Keeps old new)
 
 -- How many lines of a batch were answered: after a read that failed those that were read whole, where `after` is what the input still has, and
 -- else all of the report, unless it was cut. Any other command counts as one line.
+abbrev pub IsLineCount : List ℕ → Option (List ℕ) → Report → Ending → ℕ → Type 0
+IsLineCount text after report NoMemory count = ⊤
+IsLineCount text after report (CatalogueFault number) count = ⊤
+IsLineCount text after report WriteFault count = ⊤
+IsLineCount text after report ReadFault count = AreTaken text after count
+IsLineCount text after report ending count = count ≡ length report.lines
+
 abbrev pub IsCount : Result Command Reason → List ℕ → Option (List ℕ) → Report → Ending → ℕ → Type 0
-IsCount (Ok Batch) text after report NoMemory count = ⊤
-IsCount (Ok Batch) text after report (CatalogueFault number) count = ⊤
-IsCount (Ok Batch) text after report WriteFault count = ⊤
-IsCount (Ok Batch) text after report ReadFault count = AreTaken text after count
-IsCount (Ok Batch) text after report ending count = count ≡ length report.lines
-IsCount command text after report ending count = count ≡ 1
+IsCount command text after report ending count = OfBatch (is_batch command) (IsLineCount text after report ending count) (count ≡ 1)
 
 -- What all catalogues tell then, unless it was cut, or the output failed.
 abbrev pub LeavesEntries : Ending → List Seen → List (List Entry) → Type 0
@@ -86,8 +86,7 @@ pub record BreaksAt (count : ℕ) (answers : List (List ℕ)) (held now : Option
   pub part : AppendsPart whole now (get_or answers before [])
 
 abbrev pub Breaks : Result Command Reason → ℕ → Report → Option (List ℕ) → Option (List ℕ) → Type 0
-Breaks (Ok Batch) count report held now = BreaksAt count report.lines held now
-Breaks command count report held now = count ≡ 1
+Breaks command count report held now = OfBatch (is_batch command) (BreaksAt count report.lines held now) (count ≡ 1)
 
 -- After a write that failed: there are a text and entries, as for an answer, and where all catalogues tell, they tell what the line leaves at which it failed.
 pub record BreaksOn (command : Result Command Reason) (left : Option (List ℕ)) (old new : List Seen) (held now : Option (List ℕ)) : Type 0 where

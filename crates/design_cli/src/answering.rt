@@ -1,57 +1,33 @@
 //! The top call.
 ghost use Rattle.std.specs.Prelude.{◌≡◌, ◌≢◌, ◌<◌, ◌^◌, List, Ok, OnErr, false, length, map, true, ℕ};
-ghost use Rattle.derivations.specs.Laws.{YesLaw};
-ghost use Rattle.design_cli.specs.Laws.{ValidLaw, ValidRowsLaw, ValidSquaresLaw};
-ghost use Rattle.design_cli.specs.Report.{asks_rules, command_of, is_unbuilt, may_ask, reads_input};
+ghost use Rattle.derivation_text.specs.Spelling.{ReadBackLaw};
+ghost use Rattle.derivations.specs.Laws.{DerivationLaw, ReplayLaw, YesLaw};
+ghost use Rattle.design_answers.specs.Answered.{AnswersOn, HasOfferFault};
+ghost use Rattle.design_answers.specs.Requests.{asks_catalogues, lists_after, request_report, workload_report};
+ghost use Rattle.design_base.specs.Limits.{in_bounds, within};
+ghost use Rattle.design_base.specs.declared.limits.TheConstants.{WORKLOAD_MAX};
+ghost use Rattle.design_cli.specs.Laws.{PrintedRowsLaw, PrintedSquaresLaw, ValidLaw, ValidRowsLaw, ValidSquaresLaw};
+ghost use Rattle.design_cli.specs.Report.{command_of, may_ask};
 ghost use Rattle.design_cli.specs.Runs.{Answers, BreaksOn, RunsOn};
 ghost use Rattle.design_io.specs.Faults.{Rose};
-ghost use Rattle.design_lines.specs.Grammar.{IsInBounds};
-ghost use Rattle.design_reports.specs.Answers.{HasFault, HasReadFault, Says};
+ghost use Rattle.design_lines.specs.CommandLines.{IsInBounds};
+ghost use Rattle.design_lines.specs.Keywords.{reads_input};
+ghost use Rattle.design_lines.specs.declared.command.Command.TheVariants.{Batch};
+ghost use Rattle.design_reports.specs.Answers.{EndsWith, HasFault, HasReadFault, IsAnswer, Says};
 ghost use Rattle.rule_table.specs.Laws.{NoLaw, UnknownLaw};
 
 use crate::batching::answer_batch;
 use crate::checking::answer_check;
 use crate::replaying::answer_replay;
 use catalogues::Catalogue;
-use design_answers::{Oracle, answer_unread};
+use design_answers::{Oracle, answer_request, answer_workload};
 use design_base::Memory;
 use design_io::{Sink, Source};
-use design_lines::{Asked, Command, Verb, read_words};
+use design_lines::{Command, Request, read_words};
 use design_reports::{Ending, Status, say};
 use rule_table::{Notes, Steps};
 use std::alloc::Global;
 use std::sync::ledger::Ledger;
-
-// What answers a command.
-enum Plan {
-    /// The check of the lines of the input.
-    Check(Asked),
-    /// The derivation that the input holds.
-    Replay,
-    /// The table of rules.
-    Rules,
-    /// Nothing yet.
-    NotBuilt,
-}
-
-// What answers the command.
-fn plan_of(command: Command) -> Plan
-    ensures check { (asked : Asked) → result ≡ Plan.Check asked → command ≡ Command.On Verb.Check asked.query asked.shape }
-    ensures replay { result ≡ Plan.Replay → command ≡ Command.Replay }
-    ensures rules { result ≡ Plan.Rules → asks_rules command ≡ true }
-    ensures not_built { result ≡ Plan.NotBuilt → is_unbuilt command ≡ true }
-{
-    match command {
-        Command::On {
-            verb: Verb::Check,
-            query,
-            shape,
-        } => Plan::Check(Asked { query, shape }),
-        Command::On { .. } | Command::Workload { .. } | Command::Batch => Plan::Rules,
-        Command::Replay => Plan::Replay,
-        Command::Table { .. } => Plan::NotBuilt,
-    }
-}
 
 // The table of rules, with nothing asked of it yet. The answer is `Memory` only for want of memory.
 fn open_oracle<'a, L: Ledger>(
@@ -62,38 +38,72 @@ fn open_oracle<'a, L: Ledger>(
     Oracle::open(alloc, notes, steps)
 }
 
-// Answers a command by the table of rules.
-#[tactic(auto, using(crate::proofs::Runnings::unopened_ends))]
-fn answer_by_rules<S: Source, K: Sink, L: Ledger>(
+// Answers a verb on a question by the table of rules.
+#[tactic(auto, using(crate::proofs::Runnings::unopened_request))]
+fn answer_on<K: Sink, L: Ledger>(
     alloc: Global,
-    command: Command,
+    request: Request,
+    catalogues: &mut Vec<Box<dyn Catalogue>>,
+    steps: &mut Steps<L>,
+    out: &mut K,
+) -> Ending
+    requires bounds { in_bounds request.query ≡ true }
+    requires few { length catalogues.old.items < 2 ^ 32 }
+    ensures ends { AnswersOn (map seen catalogues.old.items) (map seen catalogues.new.items) (request_report request) (lists_after request) result (K.held out.old) (K.held out.new) }
+    ensures cause { HasFault result (K.faults out.old) (K.faults out.new) }
+    ensures offer { (number : ℕ) → result ≡ Ending.CatalogueFault number → HasOfferFault (asks_catalogues request) (map seen catalogues.old.items) (map seen catalogues.new.items) number }
+    ensures unasked { asks_catalogues request ≡ false → catalogues.new ≡ catalogues.old }
+    ensures no_read { result ≢ Ending.ReadFault }
+    ensures answered { IsAnswer result }
+{
+    let Ok(mut oracle) = open_oracle(alloc, steps) else {
+        return Ending::NoMemory;
+    };
+    answer_request(request, catalogues, &mut oracle, out)
+}
+
+// Answers the lines of the input by the table of rules.
+#[tactic(auto, using(crate::proofs::Runnings::unopened_batch))]
+fn answer_lines<S: Source, K: Sink, L: Ledger>(
+    alloc: Global,
     input: &mut S,
     catalogues: &mut Vec<Box<dyn Catalogue>>,
     steps: &mut Steps<L>,
     out: &mut K,
 ) -> Ending
-    requires bounds { IsInBounds command }
-    requires few { length catalogues.old.items < 2 ^ 32 }
-    requires rules { asks_rules command ≡ true }
-    ensures ends { Answers (Ok command) (S.left input.old) (S.left input.new) (map seen catalogues.old.items) (map seen catalogues.new.items) result (K.held out.old) (K.held out.new) }
-    ensures broken { result ≡ Ending.WriteFault → BreaksOn (Ok command) (S.left input.old) (map seen catalogues.old.items) (map seen catalogues.new.items) (K.held out.old) (K.held out.new) }
+    requires { length catalogues.old.items < 2 ^ 32 }
+    ensures ends { Answers (Ok Batch) (S.left input.old) (S.left input.new) (map seen catalogues.old.items) (map seen catalogues.new.items) result (K.held out.old) (K.held out.new) }
+    ensures broken { result ≡ Ending.WriteFault → BreaksOn (Ok Batch) (S.left input.old) (map seen catalogues.old.items) (map seen catalogues.new.items) (K.held out.old) (K.held out.new) }
     ensures cause { HasFault result (K.faults out.old) (K.faults out.new) }
     ensures read_cause { HasReadFault result (S.faults input.old) (S.faults input.new) }
-    ensures reading { result ≡ Ending.ReadFault → reads_input (Ok command) ≡ true }
-    ensures unread { reads_input (Ok command) ≡ false → input.new ≡ input.old }
-    ensures unasked { may_ask (Ok command) ≡ false → catalogues.new ≡ catalogues.old }
 {
     let Ok(mut oracle) = open_oracle(alloc, steps) else {
         return Ending::NoMemory;
     };
-    if let Command::Batch = command {
-        return answer_batch(catalogues, &mut oracle, input, out);
-    }
-    answer_unread(command, catalogues, &mut oracle, out)
+    answer_batch(catalogues, &mut oracle, input, out)
+}
+
+// Answers the draws of a workload by the table of rules.
+fn answer_draws<K: Sink, L: Ledger>(
+    alloc: Global,
+    n: u32,
+    steps: &mut Steps<L>,
+    out: &mut K,
+) -> Ending
+    requires { within 1 WORKLOAD_MAX n ≡ true }
+    ensures ends { EndsWith (workload_report n) result (K.held out.old) (K.held out.new) }
+    ensures cause { HasFault result (K.faults out.old) (K.faults out.new) }
+    ensures answered { IsAnswer result }
+    ensures no_read { result ≢ Ending.ReadFault }
+    ensures no_offer { (number : ℕ) → result ≢ Ending.CatalogueFault number }
+{
+    let Ok(mut oracle) = open_oracle(alloc, steps) else {
+        return Ending::NoMemory;
+    };
+    answer_workload(n, &mut oracle, out)
 }
 
 // Answers a command.
-#[tactic(auto, using(crate::proofs::Runnings::check_ends, crate::proofs::Runnings::replay_ends, crate::proofs::Runnings::unbuilt_ends))]
 fn answer_command<S: Source, K: Sink, L: Ledger>(
     alloc: Global,
     command: Command,
@@ -112,11 +122,13 @@ fn answer_command<S: Source, K: Sink, L: Ledger>(
     ensures unread { reads_input (Ok command) ≡ false → input.new ≡ input.old }
     ensures unasked { may_ask (Ok command) ≡ false → catalogues.new ≡ catalogues.old }
 {
-    match plan_of(command) {
-        Plan::Check(asked) => answer_check(alloc, &asked.query, asked.shape, input, out),
-        Plan::Replay => answer_replay(alloc, input, out),
-        Plan::Rules => answer_by_rules(alloc, command, input, catalogues, steps, out),
-        Plan::NotBuilt => Ending::NotBuilt,
+    match command {
+        Command::On(request) => answer_on(alloc, request, catalogues, steps, out),
+        Command::Check(asked) => answer_check(alloc, &asked.query, asked.shape, input, out),
+        Command::Replay => answer_replay(alloc, input, out),
+        Command::Batch => answer_lines(alloc, input, catalogues, steps, out),
+        Command::Workload { n } => answer_draws(alloc, n, steps, out),
+        Command::Table { .. } => Ending::NotBuilt,
     }
 }
 
@@ -150,7 +162,7 @@ pub(crate) fn answer<S: Source, K: Sink, L: Ledger>(
 /// ended. The input is read only where the words ask for a check, a replay or a batch. The catalogues, of which there are fewer than
 /// 4,294,967,296, are asked only where `ask` or `build`, alone or in a batch, has a question that the table of rules leaves open. `steps` counts the
 /// evaluations that are begun. Words that are refused are told so before any memory is taken.
-#[tactic(auto, using(rule_table::proofs::Meanings::none_meets, rule_table::proofs::Meanings::unknown_is_open, crate::proofs::Designed::valid_is_design, crate::proofs::Designed::valid_is_array, crate::proofs::Designed::valid_are_squares))]
+#[tactic(auto, using(rule_table::proofs::Meanings::none_meets, rule_table::proofs::Meanings::unknown_is_open, crate::proofs::Designed::sound_is_designed, crate::proofs::Designed::yes_is_derived, derivation_text::proofs::ReadBack::each_text_is_read, crate::proofs::Designed::valid_is_design, crate::proofs::Designed::valid_is_array, crate::proofs::Designed::valid_are_squares))]
 pub fn run<S: Source, K: Sink, E: Sink, L: Ledger>(
     alloc: Global,
     words: &[String],
@@ -176,6 +188,16 @@ pub fn run<S: Source, K: Sink, E: Sink, L: Ledger>(
     ensures design { YesLaw }
     ensures none { NoLaw }
     ensures unknown { UnknownLaw }
+
+    // The derivation of a yes is sound and ends with its question; a sound derivation leads to a design of its last question; what is printed of
+    // one is read back as it.
+    ensures derived { DerivationLaw }
+    ensures replays { ReplayLaw }
+    ensures read_back { ReadBackLaw }
+
+    // What is printed of a transversal design are an orthogonal array and Latin squares.
+    ensures printed_rows { PrintedRowsLaw }
+    ensures printed_squares { PrintedSquaresLaw }
 
     // Exactly the blocks, the rows and the squares of such designs are found valid.
     ensures valid { ValidLaw }

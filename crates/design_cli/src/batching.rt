@@ -7,13 +7,13 @@ ghost use Rattle.design_answers.specs.Answered.{HasOfferFault, LeavesTold};
 ghost use Rattle.design_base.specs.declared.limits.TheConstants.{INPUT_MAX};
 ghost use Rattle.design_cli.specs.Batches.{AnswersLine, EndsLine, LeavesLine, StopsWith, line_asks, written};
 ghost use Rattle.design_cli.specs.Runs.{Answers, BreaksOn};
-ghost use Rattle.design_lines.specs.Grammar.{parse_in_batch};
+ghost use Rattle.design_lines.specs.CommandLines.{parse_in_batch};
 ghost use Rattle.design_lines.specs.declared.command.Command.TheVariants.{Batch};
 ghost use Rattle.design_reports.specs.Answers.{EndsWith, HasFault, HasReadFault, IsAnswer};
 ghost use Rattle.design_reports.specs.Reports.{Report};
 
 use catalogues::Catalogue;
-use design_answers::{Oracle, answer_unread};
+use design_answers::{Oracle, answer_request};
 use design_base::INPUT_MAX;
 use design_io::{Failed, LineEnd, LineReader, Sink, Source, write_whole};
 use design_lines::read_line;
@@ -68,8 +68,8 @@ fn answer_line<K: Sink, A: Asker + Drop, L: Ledger>(
     match read_line(line) {
         Err(reason) => end_line(Ending::Refused { reason }, out),
         Ok(None) => Ok(()),
-        Ok(Some(command)) => {
-            let ending = answer_unread(command, catalogues, oracle, out);
+        Ok(Some(request)) => {
+            let ending = answer_request(request, catalogues, oracle, out);
             end_line(ending, out)
         }
     }

@@ -1,10 +1,12 @@
 //! The top call over an output that gets the report in few pieces.
 ghost use Rattle.std.specs.Prelude.{◌≡◌, ◌≢◌, ◌<◌, ◌^◌, OnErr, OnOk, false, length, map, true};
-ghost use Rattle.derivations.specs.Laws.{YesLaw};
-ghost use Rattle.design_cli.specs.Laws.{ValidLaw, ValidRowsLaw, ValidSquaresLaw};
-ghost use Rattle.design_cli.specs.Report.{command_of, may_ask, reads_input};
+ghost use Rattle.derivation_text.specs.Spelling.{ReadBackLaw};
+ghost use Rattle.derivations.specs.Laws.{DerivationLaw, ReplayLaw, YesLaw};
+ghost use Rattle.design_cli.specs.Laws.{PrintedRowsLaw, PrintedSquaresLaw, ValidLaw, ValidRowsLaw, ValidSquaresLaw};
+ghost use Rattle.design_cli.specs.Report.{command_of, may_ask};
 ghost use Rattle.design_cli.specs.Runs.{Answers, RunsOn};
 ghost use Rattle.design_io.specs.Buffers.{handed};
+ghost use Rattle.design_lines.specs.Keywords.{reads_input};
 ghost use Rattle.design_io.specs.Faults.{HasCause, Rose};
 ghost use Rattle.design_io.specs.Pieces.{AppendsWhole};
 ghost use Rattle.design_reports.specs.Answers.{HasFault, HasReadFault, Says};
@@ -66,7 +68,7 @@ fn answer_buffered<S: Source, K: Sink, L: Ledger, O: Origin>(
 
 /// Answers the words of a command line as `run` does, but collects the report in a buffer of fixed size, which is written on `out`
 /// where it is full and at the end. `out` is handed back behind the status.
-#[tactic(auto, using(rule_table::proofs::Meanings::none_meets, rule_table::proofs::Meanings::unknown_is_open, crate::proofs::Designed::valid_is_design, crate::proofs::Designed::valid_is_array, crate::proofs::Designed::valid_are_squares))]
+#[tactic(auto, using(rule_table::proofs::Meanings::none_meets, rule_table::proofs::Meanings::unknown_is_open, crate::proofs::Designed::sound_is_designed, crate::proofs::Designed::yes_is_derived, derivation_text::proofs::ReadBack::each_text_is_read, crate::proofs::Designed::valid_is_design, crate::proofs::Designed::valid_is_array, crate::proofs::Designed::valid_are_squares))]
 pub fn run_buffered<S: Source, K: Sink, E: Sink, L: Ledger>(
     alloc: Global,
     words: &[String],
@@ -88,6 +90,16 @@ pub fn run_buffered<S: Source, K: Sink, E: Sink, L: Ledger>(
     ensures design { YesLaw }
     ensures none { NoLaw }
     ensures unknown { UnknownLaw }
+
+    // The derivation of a yes is sound and ends with its question; a sound derivation leads to a design of its last question; what is printed of
+    // one is read back as it.
+    ensures derived { DerivationLaw }
+    ensures replays { ReplayLaw }
+    ensures read_back { ReadBackLaw }
+
+    // What is printed of a transversal design are an orthogonal array and Latin squares.
+    ensures printed_rows { PrintedRowsLaw }
+    ensures printed_squares { PrintedSquaresLaw }
 
     // Exactly the blocks, the rows and the squares of such designs are found valid.
     ensures valid { ValidLaw }

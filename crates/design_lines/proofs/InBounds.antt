@@ -15,10 +15,15 @@ use Rattle.design_lines.specs.declared.command.Shape.{Shape}
 use Rattle.design_lines.specs.declared.command.Shape.TheVariants.{Squares}
 use Rattle.design_lines.specs.declared.command.Asked.{Asked}
 use Rattle.design_lines.specs.declared.command.Command.{Command}
-use Rattle.design_lines.specs.declared.command.Command.TheVariants.{On, Table, Workload}
+use Rattle.design_lines.specs.declared.command.Command.TheVariants.{On, Check as CheckCommand, Table, Workload}
+use Rattle.design_lines.specs.declared.command.Request.{Request}
+use Rattle.design_lines.specs.declared.keywords.Keyword.{Keyword}
+use Rattle.design_lines.specs.declared.keywords.Keyword.TheVariants.{Ask, Build, Explain, Closure, Check, Replay, Batch, Workload as WorkloadWord, Table as TableWord}
+use Rattle.design_lines.specs.Keywords.{spellings}
 use Rattle.design_lines.specs.Words.{words_of}
-use Rattle.design_lines.specs.Reading.{Reading, Reader, Entry, behind, ◌then◌, number, pair, is_next, one_of_or, one_of, refused, at_end, value_read}
-use Rattle.design_lines.specs.Grammar.{questions, asked, squares, other_questions, question, table, table_in_bounds, workers, as_some, batch_command, parse_in_batch, tables, on, batch_lines, input_line, input_lines, other_lines, line, within_limits, workload, parse, IsInBounds}
+use Rattle.design_lines.specs.Reading.{Reading, Reader, Entry, behind, ◌then◌, number, pair, is_next, one_of_or, one_of, refused, at_end, value_read, whole}
+use Rattle.design_lines.specs.Grammar.{questions, asked, squares, other_questions, question}
+use Rattle.design_lines.specs.CommandLines.{IsInBounds, arguments, as_some, batch_line, batch_request, keywords, line, on, parse, parse_in_batch, table, table_in_bounds, tables, verbs, within_limits, workers, workload}
 
 -- all that is read has P
 abbrev Gives : {A : Type 0} → (A → Type 0) → Reader A → Type 0
@@ -83,15 +88,17 @@ question_gives = one_of_or_gives IsAsked other_questions _ (
 )
     (then_gives (λ _. Unit {0}) IsAsked (one_of questions) _ (anything (one_of questions)) (λ q _ at words. asked_in_bounds _ q))
 
--- the question of the command, where there is one, is in bounds
-abbrev IsBounded : Option Command → Type 0
-IsBounded None = Unit {0}
-IsBounded (Some command) = IsInBounds command
+-- the question of a request is in bounds
+abbrev IsAskedFor : Request → Type 0
+IsAskedFor request = in_bounds request.query ≡ true
 
-on_gives : (verb : Verb) → Gives IsBounded (on verb)
-on_gives verb = then_gives IsAsked IsBounded question _ question_gives (λ a asks at words. of a asks)
+abbrev IsBounded : Option Command → Type 0
+IsBounded command = IfSome command IsInBounds
+
+on_gives : (verb : Verb) → Gives (λ r. IfSome r IsAskedFor) (on verb)
+on_gives verb = then_gives IsAsked (λ r. IfSome r IsAskedFor) question _ question_gives (λ a asks at words. of a asks)
   where
-    of : (a : Option Asked) → IsAsked a → IsBounded (option_map (λ x. On verb x.query x.shape) a)
+    of : (a : Option Asked) → IsAsked a → IfSome (option_map (λ x. record { verb = verb; query = x.query; shape = x.shape }) a) IsAskedFor
     of None asks = tt
     of (Some a) asks = asks
 
@@ -121,13 +128,6 @@ tables_give = (
   ),
 )
 
-batch_lines_give : EachGives IsBounded batch_lines
-unfolding batch_lines
-batch_lines_give = (on_gives _, (on_gives _, (on_gives _, (on_gives _, tt))))
-
-batch_line_gives : Gives IsBounded (one_of batch_lines)
-batch_line_gives = one_of_gives IsBounded batch_lines batch_lines_give
-
 workload_bounded : (n : ℕ) → IsBounded (workload n)
 unfolding workload
 workload_bounded n = of (within 1 WORKLOAD_MAX n) refl
@@ -136,48 +136,60 @@ workload_bounded n = of (within 1 WORKLOAD_MAX n) refl
     of true in_range = in_range
     of false in_range = tt
 
-other_lines_give : EachGives IsBounded other_lines
-unfolding other_lines
-other_lines_give = (on_gives _, (one_of_gives IsBounded tables tables_give, (then_always IsBounded number _ (λ n at words. workload_bounded n), tt)))
+request_gives : (verb : Verb) → Gives IsBounded (on verb then λ request. λ at words. Ok (record { value = option_map On request; at = at; words = words }))
+request_gives verb = then_gives (λ r. IfSome r IsAskedFor) IsBounded (on verb) _ (on_gives verb) (λ r asks at words. of r asks)
+  where
+    of : (r : Option Request) → IfSome r IsAskedFor → IsBounded (option_map On r)
+    of None asks = tt
+    of (Some r) asks = asks
 
-input_lines_give : EachGives IsBounded input_lines
-unfolding input_lines
-input_lines_give = ((λ at words. tt), ((λ at words. tt), tt))
+arguments_give : (keyword : Keyword) → Gives IsBounded (arguments keyword)
+arguments_give Ask = request_gives _
+arguments_give Build = request_gives _
+arguments_give Explain = request_gives _
+arguments_give Closure = request_gives _
+arguments_give Check = then_gives IsAsked IsBounded question _ question_gives (λ a asks at words. of a asks)
+  where
+    of : (a : Option Asked) → IsAsked a → IsBounded (option_map CheckCommand a)
+    of None asks = tt
+    of (Some a) asks = asks
+arguments_give Replay = λ at words. tt
+arguments_give Batch = λ at words. tt
+arguments_give WorkloadWord = then_always IsBounded number _ (λ n at words. workload_bounded n)
+arguments_give TableWord = one_of_gives IsBounded tables tables_give
 
-input_line_gives : Gives IsBounded input_line
-unfolding input_line
-input_line_gives = one_of_or_gives IsBounded input_lines (one_of batch_lines) input_lines_give batch_line_gives
+-- what all the words are read as keeps P, where the numbers keep the limits
+module _ {A : Type 0} (P : A → Type 0) (read : Reader (Option A)) (gives : Gives (λ o. IfSome o P) read) where
+  of_value : (o : Option A) → IfSome o P → IfOk (within_limits (Ok o)) P
+  of_value None kept = tt
+  of_value (Some a) kept = kept
 
-at_end_gives : (value : Option Command) → IsBounded value → Gives IsBounded (at_end value)
-unfolding at_end
-at_end_gives value bounded at [] = bounded
-at_end_gives value bounded at (word ∷ words) = tt
+  of_reading : (r : Result (Reading (Option A)) Reason) → IfOk r (λ x. IfSome x.value P) → IfOk (within_limits (value_read r)) P
+  of_reading (Err reason) kept = tt
+  of_reading (Ok r) kept = of_value r.value kept
 
-of_value : (value : Option Command) → IsBounded value → IfOk (within_limits (Ok value)) IsInBounds
-of_value None bounded = tt
-of_value (Some command) bounded = bounded
+  at_end_gives : (o : Option A) → IfSome o P → Gives (λ o. IfSome o P) (at_end o)
+  unfolding at_end
+  at_end_gives o kept at [] = kept
+  at_end_gives o kept at (word ∷ words) = tt
 
-of_reading : (r : Result (Reading (Option Command)) Reason) → IfOk r (λ x. IsBounded x.value) → IfOk (within_limits (value_read r)) IsInBounds
-of_reading (Err reason) bounded = tt
-of_reading (Ok r) bounded = of_value r.value bounded
+  whole_gives : (words : List (List ℕ)) → IfOk (within_limits (whole read words)) P
+  whole_gives words = of_reading _ (then_gives (λ o. IfSome o P) (λ o. IfSome o P) read at_end gives at_end_gives 1 words)
 
 -- what a command line asks is in bounds
 pub parse_in_bounds : (words : List (List ℕ)) → IfOk (parse words) IsInBounds
 unfolding parse
-parse_in_bounds words = of_reading _
-    (then_gives IsBounded IsBounded line at_end
-    (one_of_or_gives IsBounded other_lines input_line other_lines_give input_line_gives)
-    at_end_gives 1 words)
+parse_in_bounds words = whole_gives IsInBounds line (then_always IsBounded (one_of (keywords spellings)) arguments arguments_give) words
 
-of_some : (r : Result Command Reason) → IfOk r IsInBounds → IfOk (as_some r) (λ command. IfSome command IsInBounds)
-of_some (Err reason) bounded = tt
-of_some (Ok command) bounded = bounded
+of_some : {A : Type 0} (P : A → Type 0) (r : Result A Reason) → IfOk r P → IfOk (as_some r) (λ o. IfSome o P)
+of_some P (Err reason) kept = tt
+of_some P (Ok a) kept = kept
 
-of_words : (words : List (List ℕ)) → IfOk (batch_command words) (λ command. IfSome command IsInBounds)
+of_words : (words : List (List ℕ)) → IfOk (batch_request words) (λ request. IfSome request IsAskedFor)
 of_words [] = tt
-of_words (word ∷ words) = of_some _ (of_reading _ (then_gives IsBounded IsBounded (one_of batch_lines) at_end batch_line_gives at_end_gives 1 (word ∷ words)))
+of_words (word ∷ words) = of_some IsAskedFor _ (whole_gives IsAskedFor batch_line (then_always (λ r. IfSome r IsAskedFor) (one_of (verbs spellings)) on on_gives) (word ∷ words))
 
 -- what a line of a batch asks is in bounds
-pub parse_in_batch_in_bounds : (line : List ℕ) → IfOk (parse_in_batch line) (λ command. IfSome command IsInBounds)
+pub parse_in_batch_in_bounds : (line : List ℕ) → IfOk (parse_in_batch line) (λ request. IfSome request (λ r. in_bounds r.query ≡ true))
 unfolding parse_in_batch
 parse_in_batch_in_bounds line = of_words (words_of line)

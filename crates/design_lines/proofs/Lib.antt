@@ -1,6 +1,7 @@
 pub mod Bounds
 pub mod Digits
 pub mod Joined
+pub mod CommandRows
 pub mod ReadBack
 pub mod Runs
 pub mod InBounds

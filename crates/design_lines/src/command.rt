@@ -17,14 +17,13 @@ pub enum Reason {
     OutOfBounds,
 }
 
-/// What is asked of a question.
+/// What is asked of the table of rules on a question.
 #[derive(Clone, Copy, Debug, PartialEq, Eq)]
 pub enum Verb {
     Ask,
     Build,
     Explain,
     Closure,
-    Check,
 }
 
 /// How the blocks of a design are written.
@@ -45,26 +44,27 @@ pub struct Asked {
     pub shape: Shape,
 }
 
+/// A verb on a question, and how its blocks are written. It may stand in a batch.
+#[derive(Clone, Copy, Debug, PartialEq, Eq)]
+pub struct Request {
+    pub verb: Verb,
+    pub query: Query,
+    pub shape: Shape,
+}
+
 /// What a line commands.
 #[derive(Clone, Copy, Debug, PartialEq, Eq)]
 pub enum Command {
-    /// The verb on a question.
-    On {
-        verb: Verb,
-        query: Query,
-        shape: Shape,
-    },
+    /// A verb on a question.
+    On(Request),
+    /// The blocks of the input are to be checked against a question.
+    Check(Asked),
     /// A derivation is to be read and replayed.
     Replay,
     /// The lines of the input are to be answered.
     Batch,
     /// So many questions are to be answered and counted.
-    Workload {
-        n: u32,
-    },
+    Workload { n: u32 },
     /// A table of questions, answered by 1 to 16 workers.
-    Table {
-        ask: TableAsk,
-        workers: u8,
-    },
+    Table { ask: TableAsk, workers: u8 },
 }

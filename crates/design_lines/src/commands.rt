@@ -1,11 +1,12 @@
 //! Reading a command line, or a line of a batch.
-ghost use Rattle.std.specs.Prelude.{◌≡◌, IfOk, IfSome};
-ghost use Rattle.design_base.specs.Limits.{within};
-ghost use Rattle.design_lines.specs.Reading.{Reads, one_of};
+ghost use Rattle.std.specs.Prelude.{◌≡◌, IfOk, IfSome, map, option_map, true};
+ghost use Rattle.design_base.specs.Limits.{in_bounds, within};
+ghost use Rattle.design_lines.specs.Reading.{Reads, ◌then◌, gives, one_of};
 ghost use Rattle.design_lines.specs.Words.{texts};
-ghost use Rattle.design_lines.specs.Grammar.{IsInBounds, batch_lines, input_line, is_range, line, on, other_lines, parse, parse_in_batch, table, tables, workers, workload};
+ghost use Rattle.design_lines.specs.CommandLines.{IsInBounds, arguments, batch_line, is_range, keywords, line, on, parse, parse_in_batch, table, tables, verbs, workers, workload};
 
-use crate::command::{Command, Reason, Verb};
+use crate::command::{Command, Reason, Request, Verb};
+use crate::keywords::{COMMANDS, CommandRow, Keyword};
 use crate::words::Words;
 use design_base::{
     COVER_MAX, GDD_K_MAX, POINTS_MAX, TD_K_MAX, TD_N_MAX, TableAsk, WORKERS_MAX, WORKLOAD_MAX,
@@ -27,7 +28,7 @@ fn is_crew(workers: u64) -> bool
 
 // The tables, each where its ranges and the number of workers keep the limits.
 
-#[tactic(auto, unfolding(crate::specs::Grammar::table))]
+#[tactic(auto, unfolding(crate::specs::CommandLines::table))]
 fn td(k: (u64, u64), n: (u64, u64), workers: u64) -> Option<Command>
     ensures { result ≡ table (TableAsk.Td k.0 k.1 n.0 n.1) workers }
 {
@@ -46,7 +47,7 @@ fn td(k: (u64, u64), n: (u64, u64), workers: u64) -> Option<Command>
     })
 }
 
-#[tactic(auto, unfolding(crate::specs::Grammar::table))]
+#[tactic(auto, unfolding(crate::specs::CommandLines::table))]
 fn bibd(k: (u64, u64), v: (u64, u64), l: u64, workers: u64) -> Option<Command>
     ensures { result ≡ table (TableAsk.Bibd k.0 k.1 v.0 v.1 l) workers }
 {
@@ -71,7 +72,7 @@ fn bibd(k: (u64, u64), v: (u64, u64), l: u64, workers: u64) -> Option<Command>
     })
 }
 
-#[tactic(auto, unfolding(crate::specs::Grammar::table))]
+#[tactic(auto, unfolding(crate::specs::CommandLines::table))]
 fn gdd(k: u64, g: (u64, u64), u: (u64, u64), workers: u64) -> Option<Command>
     ensures { result ≡ table (TableAsk.Gdd k g.0 g.1 u.0 u.1) workers }
 {
@@ -97,7 +98,7 @@ fn gdd(k: u64, g: (u64, u64), u: (u64, u64), workers: u64) -> Option<Command>
 }
 
 // A workload of so many draws, where there are not too many.
-#[tactic(auto, unfolding(crate::specs::Grammar::workload))]
+#[tactic(auto, unfolding(crate::specs::CommandLines::workload))]
 fn draws(n: u64) -> Option<Command>
     ensures { result ≡ workload n }
 {
@@ -109,7 +110,7 @@ fn draws(n: u64) -> Option<Command>
 
 impl<'a> Words<'a> {
     // How many workers, at the end of the line of a table.
-    #[tactic(auto, unfolding(crate::specs::Grammar::workers, crate::specs::Reading::at_end, crate::specs::Reading::one_of_or))]
+    #[tactic(auto, unfolding(crate::specs::CommandLines::workers, crate::specs::Reading::at_end, crate::specs::Reading::one_of_or))]
     fn workers(&mut self) -> Result<u64, Reason>
         ensures { Reads workers self.old self.new result }
     {
@@ -122,7 +123,7 @@ impl<'a> Words<'a> {
     }
 
     // The ranges of a table, and how many workers.
-    #[tactic(auto, unfolding(crate::specs::Grammar::tables, crate::specs::Reading::one_of_or))]
+    #[tactic(auto, unfolding(crate::specs::CommandLines::tables, crate::specs::Reading::one_of_or))]
     fn table(&mut self) -> Result<Option<Command>, Reason>
         ensures { Reads (one_of tables) self.old self.new result }
     {
@@ -150,80 +151,97 @@ impl<'a> Words<'a> {
     }
 
     // The question of a verb.
-    fn on(&mut self, verb: Verb) -> Result<Option<Command>, Reason>
+    fn on(&mut self, verb: Verb) -> Result<Option<Request>, Reason>
         ensures { Reads (on verb) self.old self.new result }
     {
         let asked = self.question()?;
-        Ok(asked.map(|asked| Command::On {
+        Ok(asked.map(|asked| Request {
             verb,
             query: asked.query,
             shape: asked.shape,
         }))
     }
 
-    // A line that may stand in a batch.
-    #[tactic(auto, unfolding(crate::specs::Grammar::batch_lines, crate::specs::Reading::one_of_or))]
-    fn batch_line(&mut self) -> Result<Option<Command>, Reason>
-        ensures { Reads (one_of batch_lines) self.old self.new result }
+    // The command of a verb on a question.
+    fn request(&mut self, verb: Verb) -> Result<Option<Command>, Reason>
+        ensures { Reads (on verb then λ request. gives (option_map Command.On request)) self.old self.new result }
     {
-        if self.takes("ask") {
-            let command = self.on(Verb::Ask)?;
-            return Ok(command);
-        }
-        if self.takes("build") {
-            let command = self.on(Verb::Build)?;
-            return Ok(command);
-        }
-        if self.takes("explain") {
-            let command = self.on(Verb::Explain)?;
-            return Ok(command);
-        }
-        if self.takes("closure") {
-            let command = self.on(Verb::Closure)?;
-            return Ok(command);
-        }
-        Err(self.no_fixed_word())
+        let request = self.on(verb)?;
+        Ok(request.map(|request| Command::On(request)))
     }
 
-    // A line on the input, or one that may stand in a batch.
-    #[tactic(auto, unfolding(crate::specs::Grammar::input_line, crate::specs::Grammar::input_lines, crate::specs::Reading::one_of_or))]
-    fn input_line(&mut self) -> Result<Option<Command>, Reason>
-        ensures { Reads input_line self.old self.new result }
+    // A question whose blocks are to be checked.
+    fn check(&mut self) -> Result<Option<Command>, Reason>
+        ensures { Reads (arguments Keyword.Check) self.old self.new result }
     {
-        if self.takes("replay") {
-            return Ok(Some(Command::Replay));
+        let asked = self.question()?;
+        Ok(asked.map(|asked| Command::Check(asked)))
+    }
+
+    // The keyword of a command in one of these rows.
+    #[tactic(auto, unfolding(crate::specs::CommandLines::keywords, crate::specs::Reading::one_of_or))]
+    fn keyword(&mut self, rows: &[CommandRow]) -> Result<Keyword, Reason>
+        ensures { Reads (one_of (keywords (map (λ row. (row.0, row.1.now)) rows.now))) self.old self.new result }
+    {
+        let Some((row, rest)) = rows.split_first() else {
+            return Err(self.no_fixed_word());
+        };
+        if self.takes(row.1) {
+            return Ok(row.0);
         }
-        if self.takes("batch") {
-            return Ok(Some(Command::Batch));
+        self.keyword(rest)
+    }
+
+    // The keyword of a line that may stand in a batch, as its verb.
+    #[tactic(auto, unfolding(crate::specs::CommandLines::verbs, crate::specs::Reading::one_of_or))]
+    fn verb(&mut self, rows: &[CommandRow]) -> Result<Verb, Reason>
+        ensures { Reads (one_of (verbs (map (λ row. (row.0, row.1.now)) rows.now))) self.old self.new result }
+    {
+        let Some((row, rest)) = rows.split_first() else {
+            return Err(self.no_fixed_word());
+        };
+        match row.0.verb() {
+            Some(verb) if self.takes(row.1) => Ok(verb),
+            _ => self.verb(rest),
         }
-        let command = self.batch_line()?;
-        Ok(command)
+    }
+
+    // What stands behind the keyword of a command.
+    fn arguments(&mut self, keyword: Keyword) -> Result<Option<Command>, Reason>
+        ensures { Reads (arguments keyword) self.old self.new result }
+    {
+        match keyword {
+            Keyword::Ask => self.request(Verb::Ask),
+            Keyword::Build => self.request(Verb::Build),
+            Keyword::Explain => self.request(Verb::Explain),
+            Keyword::Closure => self.request(Verb::Closure),
+            Keyword::Check => self.check(),
+            Keyword::Replay => Ok(Some(Command::Replay)),
+            Keyword::Batch => Ok(Some(Command::Batch)),
+            Keyword::Workload => Ok(draws(self.number()?)),
+            Keyword::Table => self.table(),
+        }
     }
 
     // A line.
-    #[tactic(auto, unfolding(crate::specs::Grammar::other_lines, crate::specs::Reading::one_of_or))]
     fn line(&mut self) -> Result<Option<Command>, Reason>
         ensures { Reads line self.old self.new result }
     {
-        if self.takes("check") {
-            let command = self.on(Verb::Check)?;
-            return Ok(command);
-        }
-        if self.takes("table") {
-            let command = self.table()?;
-            return Ok(command);
-        }
-        if self.takes("workload") {
-            let n = self.number()?;
-            return Ok(draws(n));
-        }
-        let command = self.input_line()?;
-        Ok(command)
+        let keyword = self.keyword(COMMANDS)?;
+        self.arguments(keyword)
+    }
+
+    // A line that may stand in a batch.
+    fn batch_line(&mut self) -> Result<Option<Request>, Reason>
+        ensures { Reads batch_line self.old self.new result }
+    {
+        let verb = self.verb(COMMANDS)?;
+        self.on(verb)
     }
 }
 
 // The command of the words of a command line.
-#[tactic(auto, unfolding(crate::specs::Grammar::parse, crate::specs::Reading::at_end))]
+#[tactic(auto, unfolding(crate::specs::CommandLines::parse, crate::specs::Reading::at_end))]
 fn command_of_words(words: &[String]) -> Result<Command, Reason>
     ensures { result ≡ parse (texts words.now) }
 {
@@ -243,27 +261,27 @@ pub fn read_words(words: &[String]) -> Result<Command, Reason>
     command_of_words(words)
 }
 
-// The command of the words of a line of a batch, where there are some.
-#[tactic(auto, unfolding(crate::specs::Grammar::parse_in_batch, crate::specs::Reading::at_end))]
-fn command_of_line(line: &[u8]) -> Result<Option<Command>, Reason>
+// The request of the words of a line of a batch, where there are some.
+#[tactic(auto, unfolding(crate::specs::CommandLines::parse_in_batch, crate::specs::Reading::at_end))]
+fn request_of_line(line: &[u8]) -> Result<Option<Request>, Reason>
     ensures { result ≡ parse_in_batch line.now }
 {
     let mut words = Words::of_line(line);
     if words.is_empty() {
         return Ok(None);
     }
-    let command = words.batch_line()?;
+    let request = words.batch_line()?;
     words.finish()?;
-    let command = command.ok_or(Reason::OutOfBounds)?;
-    Ok(Some(command))
+    let request = request.ok_or(Reason::OutOfBounds)?;
+    Ok(Some(request))
 }
 
-/// The command that a line of a batch is, of which only the verbs `ask`, `build`, `explain` and `closure` are known. Its
-/// words are its longest runs of bytes other than space and tab. None where it has no word.
+/// The verb and the question that a line of a batch has; `ask`, `build`, `explain` and `closure` alone may stand in one. Its words are its
+/// longest runs of bytes other than space and tab. None where it has no word.
 #[tactic(auto, using(crate::proofs::InBounds::parse_in_batch_in_bounds))]
-pub fn read_line(line: &[u8]) -> Result<Option<Command>, Reason>
-    ensures command { result ≡ parse_in_batch line.now }
-    ensures bounds { IfOk result (λ command. IfSome command IsInBounds) }
+pub fn read_line(line: &[u8]) -> Result<Option<Request>, Reason>
+    ensures request { result ≡ parse_in_batch line.now }
+    ensures bounds { IfOk result (λ request. IfSome request (λ r. in_bounds r.query ≡ true)) }
 {
-    command_of_line(line)
+    request_of_line(line)
 }

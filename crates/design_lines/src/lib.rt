@@ -3,6 +3,7 @@
 
 mod command;
 mod commands;
+mod keywords;
 mod line;
 mod names;
 mod number_texts;
@@ -12,8 +13,9 @@ mod rows;
 mod texts;
 mod words;
 
-pub use command::{Asked, Command, Reason, Shape, Verb};
+pub use command::{Asked, Command, Reason, Request, Shape, Verb};
 pub use commands::{read_line, read_words};
+pub use keywords::{COMMANDS, CommandRow, Keyword};
 pub use line::{LINE_ROOM, Text, TextLine};
 pub use names::criterion_name;
 pub use rows::RowPrinter;

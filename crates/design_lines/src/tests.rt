@@ -1,6 +1,6 @@
 use crate::{
-    Command, Reason, RowPrinter, Shape, TextLine, Verb, counted_line, question_text, read_line,
-    read_words, step_text,
+    Asked, Command, Reason, Request, RowPrinter, Shape, TextLine, Verb, counted_line,
+    question_text, read_line, read_words, step_text,
 };
 use design_base::{Group, Query, Rule, Step, TableAsk};
 use std::alloc::{AllocError, Global};
@@ -68,11 +68,7 @@ fn command_lines_are_read(rt: HostRuntime) -> Result<(), Fail> {
         ),
         ("check pbd 10 3", Query::Pbd { v: 10, s: 3 }, Shape::Blocks),
     ] {
-        let command = Command::On {
-            verb: Verb::Check,
-            query,
-            shape,
-        };
+        let command = Command::Check(Asked { query, shape });
         assert_eq!(rt; read(rt.alloc(), line)?, Ok(command), "at {line}");
     }
     let ask = TableAsk::Td {
@@ -100,12 +96,12 @@ fn lines_of_a_batch_are_read(rt: HostRuntime) {
         k: 3,
         l: 1,
     };
-    let command = Command::On {
+    let request = Request {
         verb: Verb::Build,
         query,
         shape: Shape::Blocks,
     };
-    assert_eq!(rt; read_line(b" \tbuild\t df z  13 3 1 "), Ok(Some(command)));
+    assert_eq!(rt; read_line(b" \tbuild\t df z  13 3 1 "), Ok(Some(request)));
     assert_eq!(rt; read_line(b" \t "), Ok(None));
     assert_eq!(rt; read_line(b"check td 3 2"), Err(Reason::Unknown { at: 1 }));
     assert_eq!(rt;

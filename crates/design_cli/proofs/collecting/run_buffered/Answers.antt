@@ -1,5 +1,5 @@
 use Rattle.design_cli.specs.Report.{command_of}
-use Rattle.design_cli.proofs.Designed.{yes_is_designed}
+use Rattle.design_cli.proofs.Designed.{printed_rows, printed_squares, yes_is_designed}
 use Rattle.design_cli.proofs.Runnings.{run_ends}
 use Rattle.design_reports.specs.Answers.{Says}
 use Rattle.design_cli.proofs.collecting.run_buffered.Goals as goal
@@ -12,3 +12,9 @@ returns-clause-report g c =
 
 pub returns-clause-design : goal.returns-clause-design
 returns-clause-design g c = yes_is_designed
+
+pub returns-clause-printed_rows : goal.returns-clause-printed_rows
+returns-clause-printed_rows g c = printed_rows
+
+pub returns-clause-printed_squares : goal.returns-clause-printed_squares
+returns-clause-printed_squares g c = printed_squares

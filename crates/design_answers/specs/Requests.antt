@@ -1,6 +1,6 @@
--- What the program answers to a command that leaves the input unread: the verdict on a question, and what is said of it.
+-- What the program answers to a request: the verdict on a question, and what is said of it; and to `workload`.
 -- The catalogues that are asked for open questions hold the entries `lists`, one list each.
-use Rattle.std.specs.Prelude.{ℕ, ◌≡◌, Bool, true, false, List, [], ◌∷◌, ◌++◌, codes, length, Result, Ok, Err}
+use Rattle.std.specs.Prelude.{ℕ, ◌≡◌, Bool, true, false, ◌&&◌, ◌||◌, List, [], ◌∷◌, ◌++◌, codes, length, Result, Ok, Err}
 use Rattle.catalogues.specs.Consulted.{consulted}
 use Rattle.catalogues.specs.Entries.{Seen}
 use Rattle.catalogues.specs.declared.catalogue.Entry.{Entry}
@@ -11,17 +11,18 @@ use Rattle.derivations.specs.declared.line.Line.{Line}
 use Rattle.design_base.specs.declared.query.Query.{Query}
 use Rattle.design_base.specs.declared.verdict.Verdict.{Verdict}
 use Rattle.design_base.specs.declared.verdict.Verdict.TheVariants.{Yes as YesVerdict, No as NoVerdict, Unknown as UnknownVerdict}
-use Rattle.design_lines.specs.declared.command.Command.{Command}
 use Rattle.design_lines.specs.Printed.{counted_line}
-use Rattle.design_lines.specs.declared.command.Command.TheVariants.{On, Workload}
-use Rattle.design_lines.specs.declared.command.Reason.{Reason}
+use Rattle.design_lines.specs.Keywords.{may_ask, takes_room}
+use Rattle.design_lines.specs.declared.command.Command.TheVariants.{On}
+use Rattle.design_lines.specs.declared.command.Request.{Request}
 use Rattle.design_lines.specs.declared.command.Shape.{Shape}
+use Rattle.design_lines.specs.declared.command.Verb.{Verb}
 use Rattle.design_lines.specs.declared.command.Verb.TheVariants.{Ask, Build, Closure, Explain}
 use Rattle.design_reports.specs.Endings.{status_of}
 use Rattle.design_reports.specs.Parts.{part_lines, part_of}
-use Rattle.design_reports.specs.Reports.{Report, silent, verdict_report}
+use Rattle.design_reports.specs.Reports.{Report, verdict_report}
 use Rattle.design_reports.specs.Texts.{because_lines}
-use Rattle.design_reports.specs.declared.ending.Ending.TheVariants.{NotBuilt, Yes as YesEnding}
+use Rattle.design_reports.specs.declared.ending.Ending.TheVariants.{Yes as YesEnding}
 use Rattle.design_reports.specs.declared.status.Status.TheVariants.{Usage}
 use Rattle.rule_table.specs.Closure.{closure}
 use Rattle.rule_table.specs.Verdicts.{is_yes, verdict}
@@ -73,21 +74,19 @@ build_report q shape (YesVerdict step) lists = verdict_report q (YesVerdict step
 build_report q shape (NoVerdict criterion) lists = verdict_report q (NoVerdict criterion) []
 build_report q shape UnknownVerdict lists = handed_report q shape lists
 
--- The answer to a command that leaves the input unread: the verdict, and for `explain` why it is so, for `build` the design, for `closure`
--- how many questions it rests on; or the count of a workload.
-abbrev pub unread_report : Command → List (List Entry) → Report
-unread_report (On Ask q shape) lists = ask_report q (verdict q) lists
-unread_report (On Explain q shape) lists = verdict_report q (verdict q) (reason_lines q (verdict q))
-unread_report (On Build q shape) lists = build_report q shape (verdict q) lists
-unread_report (On Closure q shape) lists = verdict_report q (verdict q) (closure_lines q)
-unread_report (Workload n) lists = workload_report n
-unread_report command lists = silent NotBuilt
+-- The answer to a verb on a question: the verdict, and for `explain` why it is so, for `build` the design, for `closure` how many questions it rests on.
+abbrev pub verb_report : Verb → Query → Shape → List (List Entry) → Report
+verb_report Ask q shape lists = ask_report q (verdict q) lists
+verb_report Explain q shape lists = verdict_report q (verdict q) (reason_lines q (verdict q))
+verb_report Build q shape lists = build_report q shape (verdict q) lists
+verb_report Closure q shape lists = verdict_report q (verdict q) (closure_lines q)
 
--- whether the catalogues are asked: where the table of rules leaves a question open
-abbrev pub asks_catalogues : Command → Bool
-asks_catalogues (On Ask q shape) = is_unknown (verdict q)
-asks_catalogues (On Build q shape) = is_unknown (verdict q)
-asks_catalogues command = false
+abbrev pub request_report : Request → List (List Entry) → Report
+request_report request lists = verb_report request.verb request.query request.shape lists
+
+-- whether the catalogues are asked: where a verb that may ask them has a question that the table of rules leaves open
+abbrev pub asks_catalogues : Request → Bool
+asks_catalogues request = may_ask (Ok (On request)) && is_unknown (verdict request.query)
 
 -- the entries afterwards: what was offered is taken out, and empty catalogues are dropped
 abbrev pub left_by : Query → Verdict → List (List Entry) → List (List Entry)
@@ -95,22 +94,21 @@ left_by q (YesVerdict step) lists = lists
 left_by q (NoVerdict criterion) lists = lists
 left_by q UnknownVerdict lists = (consulted q lists).lists
 
-abbrev pub lists_after : Command → List (List Entry) → List (List Entry)
-lists_after (On Ask q shape) lists = left_by q (verdict q) lists
-lists_after (On Build q shape) lists = left_by q (verdict q) lists
-lists_after command lists = lists
+abbrev pub verb_leaves : Verb → Query → List (List Entry) → List (List Entry)
+verb_leaves Ask q lists = left_by q (verdict q) lists
+verb_leaves Build q lists = left_by q (verdict q) lists
+verb_leaves verb q lists = lists
 
--- whether the answer to the command takes memory, by what is seen of the catalogues
+abbrev pub lists_after : Request → List (List Entry) → List (List Entry)
+lists_after request lists = verb_leaves request.verb request.query lists
+
+-- whether the answer takes memory, by what is seen of the catalogues
 abbrev pub asks_some : Bool → List Seen → Bool
 asks_some asks [] = false
 asks_some asks (s ∷ seen) = asks
 
-abbrev pub takes_memory : Result Command Reason → List Seen → Bool
-takes_memory (Err reason) seen = false
-takes_memory (Ok (On Ask q shape)) seen = asks_some (is_unknown (verdict q)) seen
-takes_memory (Ok (On Closure q shape)) seen = false
-takes_memory (Ok (Workload n)) seen = false
-takes_memory command seen = true
+abbrev pub takes_memory : Request → List Seen → Bool
+takes_memory request seen = takes_room (Ok (On request)) || asks_some (asks_catalogues request) seen
 
 -- the words are refused
 abbrev pub IsRefused : Report → Type 0
