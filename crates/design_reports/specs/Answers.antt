@@ -26,15 +26,17 @@ EndsWith report ending old new = EndsCut Keeps report ending old new
 abbrev pub IsAnswer : Ending → Type 0
 IsAnswer ending = status_of ending ≢ Usage
 
--- The count of the output's faults never falls, and the output failed where the answer says so.
+-- The count of the output's faults never falls, the output failed where the answer says so, and else the count stays.
 pub record HasFault (ending : Ending) (before now : ℕ) : Type 0 where
   pub later : before ≤ now
   pub failed : ending ≡ FailedWrite → Rose before now
+  pub kept : ending ≢ FailedWrite → now ≡ before
 
 -- The same of the input's faults, where the answer says that a read failed.
 pub record HasReadFault (ending : Ending) (before now : ℕ) : Type 0 where
   pub later : before ≤ now
   pub failed : ending ≡ FailedRead → Rose before now
+  pub kept : ending ≢ FailedRead → now ≡ before
 
 -- A text was appended, or its sink failed after a part of it.
 abbrev pub Says : List ℕ → Option (List ℕ) → Option (List ℕ) → ℕ → ℕ → Type 0

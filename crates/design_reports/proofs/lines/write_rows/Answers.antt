@@ -1,4 +1,4 @@
-use Rattle.std.proofs.Common.{arith}
+use Rattle.std.proofs.Common.{arith, ◌∙◌}
 use Rattle.design_io.proofs.Pieces.{AppendsWhole-failed}
 use Rattle.design_reports.specs.Texts.{row_line}
 use Rattle.design_reports.proofs.Outputs.{rows_more, rows_part}
@@ -14,5 +14,5 @@ loop-i-preserved g c = record {
   bytes =
       rows_more row_line c.args.rows.now c.args.start c.loop-i.i c.row.result.now (omega arith) c.row.ensures (g.K.Sink.held c.args.out.now) (g.K.Sink.held c.loop-i.out) (g.K.Sink.held c.write_row.new.out)
       c.loop-i.invariant.bytes c.in_ok-write_row.ensures.bytes;
-  later = omega (arith, c.loop-i.invariant.later, c.in_ok-write_row.ensures.cause);
+  kept = c.in_ok-write_row.ensures.cause.kept ∙ c.loop-i.invariant.kept;
 }
