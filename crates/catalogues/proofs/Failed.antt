@@ -1,13 +1,16 @@
--- A catalogue that failed has a count that rose, and it stays; those behind the last that was asked are as they were.
-use Rattle.std.proofs.Common.{List, [], ap, arith, inl, inr, refl, subst, suc, sym, zero, ℕ, ◌+◌, ◌<◌, ◌∙◌, ◌∷◌, ◌≡◌, ◌≤◌, slice_set}
-use Rattle.std.specs.Prelude.{None, Option, Result, Some, drop, slice_get}
-use Rattle.std.specs.declared.result.Result.TheVariants.{Err, Ok}
+-- The catalogue that failed stays, between what is left of those before it and of those behind it.
+use Rattle.std.proofs.Common.{List, [], add-one, ap, arith, inl, inr, refl, subst, suc, sym, zero, ℕ, ◌++◌, ◌+◌, ◌<◌, ◌∙◌, ◌∷◌, ◌≡◌, ◌≢◌, ◌≤◌, slice_set}
+use Rattle.std.proofs.lemmas.Option.{same_Some}
+use Rattle.std.specs.Prelude.{None, Option, Result, Some, drop, slice_get, take}
+use Rattle.std.specs.declared.result.Result.TheVariants.{Err}
 use Rattle.design_base.specs.declared.query.Query.{Query}
 use Rattle.catalogues.specs.declared.outcome.Rejected.{Rejected}
 use Rattle.catalogues.specs.Entries.{Seen}
-use Rattle.catalogues.specs.Consults.{AreUnasked, Begun, Consults, Drops, EndsAtValid, EndsConsult, HasEnded, HasFailed, Reached, WalksTo}
+use Rattle.catalogues.proofs.Left.{asked_begun, asks_cut}
+use Rattle.catalogues.proofs.Offers.{failed}
+use Rattle.catalogues.specs.Consults.{Begun, Drops, EndsConsult, HasEnded, HasFailed, MayGo, MayStay, Reached}
+use Rattle.catalogues.specs.Left.{AreAsked}
 use Rattle.catalogues.specs.declared.outcome.Offered.{Offered}
-use Rattle.catalogues.specs.declared.outcome.Offered.TheVariants.{Fit}
 use Rattle.catalogues.specs.declared.catalogue.OfferEnd.{OfferEnd}
 use Rattle.catalogues.specs.declared.catalogue.OfferEnd.TheVariants.{Failed}
 use Rattle.catalogues.specs.declared.outcome.ConsultEnd.{ConsultEnd}
@@ -46,53 +49,102 @@ rest_of_reached : (q : Query) (old after : List Seen) (number : ℕ) (R : List R
 rest_of_reached q old after number R answer r =
     ap (drop number) r.asks.after ∙ drop_other r.before r.place number r.asks.is (omega (arith, r.counts)) ∙ rest_of_begun q r.place old r.before R r.begun number (omega (arith, r.counts))
 
-dropped_apart : (failed : Option ℕ) (i n place : ℕ) (after new : List Seen) → i + n ≡ place → Drops failed i after new → AreUnasked failed place (drop n after) new
+-- ---- the one that failed parts the others
+-- by the number of the one that failed none of the others is kept
+stay_unnamed : (failed : Option ℕ) (i j : ℕ) (s : Seen) → failed ≢ Some (i + 1) → MayStay failed i s → MayStay None j s
+stay_unnamed failed i j s ne (inl e) = absurd (ne e)
+stay_unnamed failed i j s ne (inr h) = inr h
+
+go_unnamed : (failed : Option ℕ) (i j : ℕ) (s : Seen) → MayGo failed i s → MayGo None j s
+go_unnamed failed i j s h = ((λ e. cc), h.1)
+
+drops_unnamed : (number i j : ℕ) (old new : List Seen) → number ≤ i → Drops (Some number) i old new → Drops None j old new
 unfolding Drops
-dropped_apart failed i zero place after new e d = record { front = []; rest = new; parts = refl; drops = subst (λ j. Drops failed j after new) (omega (arith, e)) d }
-dropped_apart failed i (suc n) place [] new e d = record { front = []; rest = new; parts = refl; drops = d }
-dropped_apart failed i (suc n) place (x ∷ after) new e (inl d) = let r = dropped_apart failed (i + 1) n place after d.1.0 (omega (arith, e)) d.1.2 in
-    record { front = x ∷ r.front; rest = r.rest; parts = d.1.1 ∙ ap (λ xs. x ∷ xs) r.parts; drops = r.drops }
-dropped_apart failed i (suc n) place (x ∷ after) new e (inr d) = dropped_apart failed (i + 1) n place after new (omega (arith, e)) d.1
-
-are_unasked : (q : Query) (failed : Option ℕ) (old after new : List Seen) (number : ℕ) (R : List Rejected) (answer : Result Offered OfferEnd) → Reached q old after number R answer → Drops failed 0 after new → AreUnasked failed number (drop number old) new
-are_unasked q failed old after new number R answer r d = subst (λ zs. AreUnasked failed number zs new) (rest_of_reached q old after number R answer r) (dropped_apart failed 0 number number after new (omega arith) d)
-
-at_valid : (q : Query) (old after new : List Seen) (R : List Rejected) (offer : Option (ℕ × List (List ℕ))) → WalksTo q old after R offer → Drops None 0 after new → EndsAtValid old new offer
-at_valid q old after new R None w d = tt
-at_valid q old after new R (Some p) r d = are_unasked q None old after new p.0 R (Ok (Fit p.1)) r d
-
-pub ends_at_valid : (q : Query) (old new : List Seen) (R : List Rejected) (offer : Option (ℕ × List (List ℕ))) → Consults q old new R offer → EndsAtValid old new offer
-ends_at_valid q old new R offer c = at_valid q old c.after new R offer c.walks c.drops
-
--- the one that failed stays
-kept : (number i : ℕ) (j : ℕ) (after new : List Seen) (s : Seen) → number ≡ i + j + 1 → Drops (Some number) i after new → slice_get after j ≡ Some s → (place : ℕ) × (slice_get new place ≡ Some s)
-unfolding Drops
-kept number i j [] new s n d e = absurd (nothing e)
+drops_unnamed number i j [] new l d = d
+drops_unnamed number i j (s ∷ old) new l (inl d) = inl (stay_unnamed (Some number) i j s (other number i l) d.0, (d.1.0, d.1.1, drops_unnamed number (i + 1) (j + 1) old d.1.0 (omega arith) d.1.2))
   where
-    nothing : None ≡ Some s → ⊥
+    same : (n m : ℕ) → Some n ≡ Some m → n ≡ m
+    same n m e = same_Some n m e
+
+    other : (number i : ℕ) → number ≤ i → Some number ≢ Some (i + 1)
+    other number i l e = absurd (omega (arith, l, same number (i + 1) e))
+drops_unnamed number i j (s ∷ old) new l (inr d) = inr (go_unnamed (Some number) i j s d.0, drops_unnamed number (i + 1) (j + 1) old new (omega arith) d.1)
+
+record Parts (n : ℕ) (x : Seen) (old new : List Seen) : Type 0 where
+  front : List Seen
+  rest : List Seen
+  parts : new ≡ front ++ x ∷ rest
+  before : (j : ℕ) → Drops None j (take n old) front
+  behind : Drops None 0 (drop (suc n) old) rest
+
+drops_none : (j : ℕ) → Drops None j [] []
+unfolding Drops
+drops_none j = refl
+
+parted : (number i n : ℕ) (x : Seen) (old new : List Seen) → number ≡ i + n + 1 → slice_get old n ≡ Some x → Drops (Some number) i old new → Parts n x old new
+unfolding Drops
+parted number i n x [] new e at d = absurd (nothing at)
+  where
+    nothing : None ≡ Some x → ⊥
     nothing e = cc
-kept number i zero (x ∷ after) new s n (inl d) e = (0, ap (λ xs. slice_get xs 0) d.1.1 ∙ e)
-kept number i zero (x ∷ after) new s n (inr d) e = absurd (d.0.0 (ap Some (omega (arith, n))))
-kept number i (suc j) (x ∷ after) new s n (inl d) e = let r = kept number (i + 1) j after d.1.0 s (omega (arith, n)) d.1.2 e in (suc r.0, ap (λ xs. slice_get xs (suc r.0)) d.1.1 ∙ r.1)
-kept number i (suc j) (x ∷ after) new s n (inr d) e = kept number (i + 1) j after new s (omega (arith, n)) d.1 e
+parted number i zero x (s ∷ old) new e at (inl d) = record {
+  front = [];
+  rest = d.1.0;
+  parts = d.1.1 ∙ ap (λ s. s ∷ d.1.0) (same_Some s x at);
+  before = λ j. drops_none j;
+  behind = drops_unnamed number (i + 1) 0 old d.1.0 (omega (arith, e)) d.1.2;
+}
+parted number i zero x (s ∷ old) new e at (inr d) = absurd (d.0.0 (ap Some (omega (arith, e))))
+parted number i (suc n) x (s ∷ old) new e at (inl d) = let p = parted number (i + 1) n x old d.1.0 (omega (arith, e)) at d.1.2 in record {
+  front = s ∷ p.front;
+  rest = p.rest;
+  parts = d.1.1 ∙ ap (λ xs. s ∷ xs) p.parts;
+  before = λ j. inl (stay_unnamed (Some number) i j s (other number i n e) d.0, (p.front, refl, p.before (j + 1)));
+  behind = p.behind;
+}
+  where
+    same : (n m : ℕ) → Some n ≡ Some m → n ≡ m
+    same n m e = same_Some n m e
+
+    other : (number i n : ℕ) → number ≡ i + suc n + 1 → Some number ≢ Some (i + 1)
+    other number i n e f = absurd (omega (arith, e, same number (i + 1) f))
+parted number i (suc n) x (s ∷ old) new e at (inr d) = let p = parted number (i + 1) n x old new (omega (arith, e)) at d.1 in record {
+  front = p.front;
+  rest = p.rest;
+  parts = p.parts;
+  before = λ j. inr (go_unnamed (Some number) i j s d.0, p.before (j + 1));
+  behind = p.behind;
+}
+
+-- those before a place
+asked_front : (n : ℕ) (old new : List Seen) → AreAsked n old new → AreAsked n (take n old) (take n new)
+unfolding AreAsked
+asked_front zero old new h = refl
+asked_front (suc n) [] new h = absurd h
+asked_front (suc n) (s ∷ old) new h = (h.0, take n h.1, ap (take (suc n)) h.2, h.3, h.4, asked_front n old h.1 h.5)
+
+take_before : {X : Type 0} (xs : List X) (i : ℕ) (x : X) → take i (slice_set xs i x) ≡ take i xs
+take_before [] i x = refl
+take_before (y ∷ xs) zero x = refl
+take_before (y ∷ xs) (suc i) x = ap (λ xs. y ∷ xs) (take_before xs i x)
 
 failed_walk : (q : Query) (old after new : List Seen) (number : ℕ) (R : List Rejected) → Reached q old after number R (Err Failed) → Drops (Some number) 0 after new → HasFailed old new number
 failed_walk q old after new number R r d =
-    let k = kept number 0 r.place after new r.asks.is (omega (arith, r.counts)) d (ap (λ xs. slice_get xs r.place) r.asks.after ∙ get_same r.before r.place r.asks.is r.asks.was r.asks.at) in record {
-      was = r.asks.was;
-      is = r.asks.is;
+    let s = r.asks in
+    let p = parted number 0 r.place s.is after new (omega (arith, r.counts)) (ap (λ xs. slice_get xs r.place) s.after ∙ get_same r.before r.place s.is s.was s.at) d in
+    let asked : AreAsked r.place (take r.place old) (take r.place after) =
+    subst (AreAsked r.place (take r.place old)) (sym (ap (take r.place) s.after ∙ take_before r.before r.place s.is)) (asked_front r.place old r.before (asked_begun q r.place old r.before R r.begun)) in record {
       place = r.place;
       counts = r.counts;
-      at = sym (unasked q r.place old r.before R r.begun r.place (omega arith)) ∙ r.asks.at;
-      rose = r.asks.asks.lawful;
-      left = k.0;
-      stays = k.1;
-      behind = are_unasked q (Some number) old after new number R (Err Failed) r d;
+      was = s.was;
+      at = sym (unasked q r.place old r.before R r.begun r.place (omega arith)) ∙ s.at;
+      front = p.front;
+      rest = p.rest;
+      parts = p.parts ∙ ap (λ is. p.front ++ is ∷ p.rest) (failed q s.was s.is s.asks);
+      before = record { after = take r.place after; asked = asked; drops = p.before 0 };
+      behind = subst (λ xs. Drops None 0 xs p.rest) (ap (λ n. drop n after) (sym (r.counts ∙ add-one r.place)) ∙ rest_of_reached q old after number R (Err Failed) r) p.behind;
     }
 
-pub has_failed : (q : Query) (old new : List Seen) (number : ℕ) → EndsConsult q old new (EndFailed number) → HasFailed old new number
-has_failed q old new number e = failed_walk q old e.after new number e.walks.0 e.walks.1 e.drops
-
 pub by_end : (q : Query) (old new : List Seen) (end : ConsultEnd) → EndsConsult q old new end → HasEnded old new end
-by_end q old new (EndFailed number) e = has_failed q old new number e
-by_end q old new EndMemory e = tt
+by_end q old new (EndFailed number) e = failed_walk q old e.after new number e.walks.0 e.walks.1 e.drops
+by_end q old new EndMemory e = asks_cut q old new e

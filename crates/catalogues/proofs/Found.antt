@@ -10,11 +10,12 @@ use Rattle.design_base.specs.Canonical.{canonical}
 use Rattle.design_base.specs.declared.query.Query.{Query}
 use Rattle.catalogues.proofs.Failed.{unasked}
 use Rattle.catalogues.proofs.Held.{held_first, held_none, some_held}
+use Rattle.catalogues.proofs.Offers.{IsAnswer, IsToldAnswer, lawful, told}
 use Rattle.catalogues.proofs.Taken.{taken_none, taken_some}
 use Rattle.catalogues.proofs.Told.{told_after}
 use Rattle.catalogues.proofs.Walks.{after, after_before, walk_end, walk_fit, walk_none, walk_unfit}
 use Rattle.catalogues.specs.Consulted.{AreHeld, IsConsulted, IsHeld, Walk, before, walk}
-use Rattle.catalogues.specs.Consults.{Begun, Consults, IsAnswer, IsToldAnswer, Notes, Passed, WalksTo}
+use Rattle.catalogues.specs.Consults.{Begun, Consults, Notes, Passed, WalksTo}
 use Rattle.catalogues.specs.Entries.{Seen, place_of, take_out}
 use Rattle.catalogues.specs.declared.catalogue.Entry.{Entry}
 use Rattle.catalogues.specs.declared.catalogue.OfferEnd.{OfferEnd}
@@ -41,16 +42,16 @@ taken_alone q B = sym (taken_some q (alone q B) [] 0 (record { query = q; blocks
     first = ap (λ t. cond (nat_lt (cond (not t) (1 + 0) 0) 1) (Some (cond (not t) (1 + 0) 0)) None) (query_is q)
 
 -- where none are told, the offer is the only entry
-made_up : (q : Query) (before now : ℕ) (answer : Result Offered OfferEnd) → IsAnswer q before now answer → Suits q None answer
-made_up q before now (Ok Nothing) a = record { es = []; held = tt; new = Some (take_out q []).entries; says = (sym (taken_none q [] refl).0, refl) }
-made_up q before now (Ok (Unfit found)) a = record { es = alone q a.blocks; held = tt; new = Some (take_out q (alone q a.blocks)).entries; says = (a.blocks, taken_alone q a.blocks, a.found_is, refl) }
-made_up q before now (Ok (Fit C)) a = record { es = alone q a.blocks; held = tt; new = Some (take_out q (alone q a.blocks)).entries; says = (a.blocks, taken_alone q a.blocks, a.form, refl) }
-made_up q before now (Err Failed) a = record { es = []; held = tt; new = Some []; says = refl }
-made_up q before now (Err Memory) a = record { es = []; held = tt; new = Some []; says = inl refl }
+made_up : (q : Query) (answer : Result Offered OfferEnd) → IsAnswer q answer → Suits q None answer
+made_up q (Ok Nothing) a = record { es = []; held = tt; new = Some (take_out q []).entries; says = (sym (taken_none q [] refl).0, refl) }
+made_up q (Ok (Unfit found)) a = record { es = alone q a.blocks; held = tt; new = Some (take_out q (alone q a.blocks)).entries; says = (a.blocks, taken_alone q a.blocks, a.found_is, refl) }
+made_up q (Ok (Fit C)) a = record { es = alone q a.blocks; held = tt; new = Some (take_out q (alone q a.blocks)).entries; says = (a.blocks, taken_alone q a.blocks, a.form, refl) }
+made_up q (Err Failed) a = record { es = []; held = tt; new = Some []; says = refl }
+made_up q (Err Memory) a = record { es = []; held = tt; new = Some []; says = inl refl }
 
-suits : (q : Query) (told new : Option (List Entry)) (before now : ℕ) (answer : Result Offered OfferEnd) → IsAnswer q before now answer → IfSome told (λ es. IsToldAnswer q es new answer) → Suits q told answer
-suits q None new before now answer a t = made_up q before now answer a
-suits q (Some es) new before now answer a t = record { es = es; held = refl; new = new; says = t }
+suits : (q : Query) (told new : Option (List Entry)) (answer : Result Offered OfferEnd) → IsAnswer q answer → IfSome told (λ es. IsToldAnswer q es new answer) → Suits q told answer
+suits q None new answer a t = made_up q answer a
+suits q (Some es) new answer a t = record { es = es; held = refl; new = new; says = t }
 
 -- ---- after i catalogues
 -- there are entries of the first i, behind which the walk goes on with the entries of the others
@@ -80,12 +81,12 @@ module _ (q : Query) (i : ℕ) (old : List Seen) (was : Seen) (at : slice_get ol
         ∙ after_before S N w.done stay (walk q (i + 1 + 1) more) ∙ ap (λ R. after R (w.done ++ stay ∷ []) (walk q (i + 1 + 1) more)) (sym r);
   }
 
-  by_answer : (S R : List Rejected) (before now : ℕ) (answer : Result Offered OfferEnd) → Halfway q i old S → Suits q was.told answer → IsAnswer q before now answer → Notes i answer S R → Halfway q (i + 1) old R
-  by_answer S R before now (Ok Nothing) w t a n = onward S [] R t.es (take_out q t.es).entries w (n ∙ sym (append-nil S)) t.held (λ more. walk_none q (i + 1) t.es more t.says.0)
-  by_answer S R before now (Ok (Unfit found)) w t a n = let h = t.says in
+  by_answer : (S R : List Rejected) (answer : Result Offered OfferEnd) → Halfway q i old S → Suits q was.told answer → IsAnswer q answer → Notes i answer S R → Halfway q (i + 1) old R
+  by_answer S R (Ok Nothing) w t a n = onward S [] R t.es (take_out q t.es).entries w (n ∙ sym (append-nil S)) t.held (λ more. walk_none q (i + 1) t.es more t.says.0)
+  by_answer S R (Ok (Unfit found)) w t a n = let h = t.says in
       onward S ((record { number = i + 1; finding = found }) ∷ []) R t.es (take_out q t.es).entries w n t.held (λ more. walk_unfit q (i + 1) t.es more h.0 found h.1 h.2 a.unfit)
-  by_answer S R before now (Ok (Fit C)) w t a n = absurd n
-  by_answer S R before now (Err end) w t a n = absurd n
+  by_answer S R (Ok (Fit C)) w t a n = absurd n
+  by_answer S R (Err end) w t a n = absurd n
 
 -- the one at place i is as it was, before it is asked
 was_at : (q : Query) (i : ℕ) (old mid : List Seen) (R : List Rejected) (was : Seen) → Begun q i old mid R → slice_get mid i ≡ Some was → slice_get old i ≡ Some was
@@ -93,7 +94,7 @@ was_at q i old mid R was b at = sym (unasked q i old mid R b i (omega arith)) �
 
 halfway_more : (q : Query) (i : ℕ) (old mid new : List Seen) (S R : List Rejected) → Begun q i old mid S → Halfway q i old S → Passed q i mid new S R → Halfway q (i + 1) old R
 halfway_more q i old mid new S R b w p = let s = p.asks in
-    by_answer q i old s.was (was_at q i old mid S s.was b s.at) S R s.was.failures s.is.failures p.answer w (suits q s.was.told s.is.told s.was.failures s.is.failures p.answer s.asks.lawful s.asks.told) s.asks.lawful p.notes
+    by_answer q i old s.was (was_at q i old mid S s.was b s.at) S R p.answer w (suits q s.was.told s.is.told p.answer (lawful q s.was s.is p.answer s.asks) (told q s.was s.is p.answer s.asks)) (lawful q s.was s.is p.answer s.asks) p.notes
 
 halfway : (q : Query) (i : ℕ) (old mid : List Seen) (R : List Rejected) → Begun q i old mid R → Halfway q i old R
 unfolding Begun after
@@ -121,12 +122,13 @@ found q old new R None b = let w = halfway q (length old) old new R b in
 found q old new R (Some c) r =
     let w = halfway q r.place old r.before R r.begun in
     let s = r.asks in
-    let t = suits q s.was.told s.is.told s.was.failures s.is.failures (Ok (Fit c.1)) s.asks.lawful s.asks.told in
+    let fit = lawful q s.was s.is (Ok (Fit c.1)) s.asks in
+    let t = suits q s.was.told s.is.told (Ok (Fit c.1)) fit (told q s.was s.is (Ok (Fit c.1)) s.asks) in
     let h = t.says in
     let behind = some_held (drop (r.place + 1) old) in
     found_by q old R (Some c) (w.front ++ t.es ∷ behind.0) (after R w.done (record { refusals = []; valid = Some (r.place + 1, canonical h.0); lists = (take_out q t.es).entries ∷ behind.0 }))
     (w.held (t.es ∷ behind.0) (held_at q r.place old s.was (was_at q r.place old r.before R s.was r.begun s.at) t.es behind.0 t.held behind.1))
-    (w.walks (t.es ∷ behind.0) ∙ ap (after R w.done) (walk_fit q (r.place + 1) t.es behind.0 h.0 c.1 h.1 h.2 s.asks.lawful.passes))
+    (w.walks (t.es ∷ behind.0) ∙ ap (after R w.done) (walk_fit q (r.place + 1) t.es behind.0 h.0 c.1 h.1 h.2 fit.passes))
     (sym (append-nil R)) (ap Some (ap₂ (λ n C. (n, C)) r.counts h.2))
 
 pub is_consulted : (q : Query) (old new : List Seen) (R : List Rejected) (valid : Option (ℕ × List (List ℕ))) → Consults q old new R valid → IsConsulted q old new R valid

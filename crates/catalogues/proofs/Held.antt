@@ -1,5 +1,5 @@
 -- Entries of catalogues: those that they tell, where they do.
-use Rattle.std.proofs.Common.{List, [], ap, ap₂, length, map, refl, subst, sym, ℕ, ◌∙◌, ◌∷◌, ◌≡◌}
+use Rattle.std.proofs.Common.{List, [], ap, ap₂, length, map, refl, subst, suc, sym, ℕ, ◌∙◌, ◌∷◌, ◌≡◌}
 use Rattle.std.proofs.lemmas.List.{length-map}
 use Rattle.std.specs.Prelude.{None, Option, Some}
 use Rattle.catalogues.specs.Consulted.{AreHeld, AreTold, IsConsulted, IsHeld, consulted}
@@ -42,6 +42,13 @@ held_first s old es lists h hs = (h, hs)
 pub some_held : (old : List Seen) → (lists : List (List Entry)) × AreHeld old lists
 some_held [] = ([], held_none)
 some_held (s ∷ old) = let rest = some_held old in let first = some_entries s.told in (first.0 ∷ rest.0, held_first s old first.0 rest.0 first.1 rest.1)
+
+-- a list of entries for each catalogue, no more and no fewer
+pub held_length : (old : List Seen) (lists : List (List Entry)) → AreHeld old lists → length lists ≡ length old
+unfolding AreHeld
+held_length [] lists h = ap length h
+held_length (s ∷ old) [] h = absurd h
+held_length (s ∷ old) (es ∷ lists) h = ap suc (held_length old lists h.1)
 
 -- ---- where all are told, there are no others
 same_entries : (told : Option (List Entry)) (es fs : List Entry) → IsHeld told es → told ≡ Some fs → es ≡ fs

@@ -1,3 +1,4 @@
+pub mod Offers
 pub mod Steps
 pub mod Drops
 pub mod Taken

@@ -38,7 +38,7 @@ reached q i number old mid new S R C b s e = record { place = i; before = mid; b
 
 pub ends_walk : (q : Query) (i : ℕ) (old mid new : List Seen) (S R : List Rejected) (end : ConsultEnd) → Begun q i old mid S → Steps q i mid new S R (Err end) → EndsWalk q old new end
 ends_walk q i old mid new S R (EndFailed number) b s = (S, record { place = i; before = mid; begun = b; asks = s.0; counts = s.1 })
-ends_walk q i old mid new S R EndMemory b s = (i + 1, S, s.0, record { place = i; before = mid; begun = b; asks = s.1; counts = refl })
+ends_walk q i old mid new S R EndMemory b s = (i + 1, S, s.0, s.1, record { place = i; before = mid; begun = b; asks = s.2; counts = refl })
 
 pub walks_all : {X : Type 0} (see : X → Seen) (q : Query) (i : ℕ) (xs : List X) (new : List Seen) (R : List Rejected) → i ≡ length xs → Begun q i (map see xs) new R → WalksTo q (map see xs) new R None
 walks_all see q i xs new R e b = subst (λ n. Begun q n (map see xs) new R) (e ∙ sym (length-map xs see)) b

@@ -11,7 +11,8 @@ use Rattle.catalogues.specs.declared.outcome.Rejected.{Rejected}
 use Rattle.catalogues.proofs.Held.{all_told, length_told, told_head, told_of}
 use Rattle.catalogues.proofs.Walks.{after, after_before, walk_end, walk_fit, walk_none, walk_unfit}
 use Rattle.catalogues.specs.Consulted.{AreTold, before, consulted, walk}
-use Rattle.catalogues.specs.Consults.{Begun, Consults, Drops, IsAnswer, IsToldAnswer, Notes, Passed, StepAt, WalksTo}
+use Rattle.catalogues.proofs.Offers.{IsAnswer, IsToldAnswer, lawful, told}
+use Rattle.catalogues.specs.Consults.{Begun, Consults, Drops, Notes, Passed, StepAt, WalksTo}
 use Rattle.catalogues.specs.Entries.{IsSpent, Seen, no_entry, take_out}
 use Rattle.catalogues.specs.declared.catalogue.Entry.{Entry}
 use Rattle.catalogues.specs.declared.catalogue.OfferEnd.{OfferEnd}
@@ -68,7 +69,7 @@ place_of q i lists mid new R answer m s =
       is = s.is.told;
       now = ap told_of s.after ∙ map-set (λ s. s.told) mid i s.is ∙ ap (λ t. slice_set t i s.is.told) (m.now ∙ ap (λ suffix. all_told (m.done ++ suffix)) o.2);
       walks = m.walks ∙ ap (λ suffix. after R m.done (walk q (i + 1) suffix)) o.2;
-      lawful = subst (λ t. IfSome t (λ es. IsToldAnswer q es s.is.told answer)) o.3 s.asks.told;
+      lawful = subst (λ t. IfSome t (λ es. IsToldAnswer q es s.is.told answer)) o.3 (told q s.was s.is answer s.asks);
     }
 
 -- one more that offered no valid list
@@ -86,22 +87,15 @@ module _ (q : Query) (i : ℕ) (lists : List (List Entry)) (mid new : List Seen)
   }
 
 module _ (q : Query) (i : ℕ) (lists : List (List Entry)) (mid new : List Seen) (S R : List Rejected) where
-  by_answer : (answer : Result Offered OfferEnd) → Place q i lists mid new S answer → IsAnswer q 0 0 answer → Notes i answer S R → Midway q (i + 1) lists new R
+  by_answer : (answer : Result Offered OfferEnd) → Place q i lists mid new S answer → IsAnswer q answer → Notes i answer S R → Midway q (i + 1) lists new R
   by_answer (Ok Nothing) p lawful n = subst (Midway q (i + 1) lists new) (append-nil S ∙ sym n) (onward q i lists mid new S [] (Ok Nothing) p (take_out q p.es).entries p.lawful.1 (walk_none q (i + 1) p.es p.rest p.lawful.0))
   by_answer (Ok (Unfit found)) p lawful n = let h = p.lawful in subst (Midway q (i + 1) lists new) (sym n) (onward q i lists mid new S ((record { number = i + 1; finding = found }) ∷ []) (Ok (Unfit found)) p (take_out q p.es).entries h.3
       (walk_unfit q (i + 1) p.es p.rest h.0 found h.1 h.2 lawful.unfit))
   by_answer (Ok (Fit C)) p lawful n = absurd n
   by_answer (Err end) p lawful n = absurd n
 
-  -- what the answer says of the offer does not go by the failures
-  without_counts : (before now : ℕ) (answer : Result Offered OfferEnd) → Notes i answer S R → IsAnswer q before now answer → IsAnswer q 0 0 answer
-  without_counts before now (Ok Nothing) n h = tt
-  without_counts before now (Ok (Unfit found)) n h = h
-  without_counts before now (Ok (Fit C)) n h = absurd n
-  without_counts before now (Err end) n h = absurd n
-
   midway_more : Midway q i lists mid S → Passed q i mid new S R → Midway q (i + 1) lists new R
-  midway_more m p = by_answer p.answer (place_of q i lists mid new S p.answer m p.asks) (without_counts p.asks.was.failures p.asks.is.failures p.answer p.notes p.asks.asks.lawful) p.notes
+  midway_more m p = by_answer p.answer (place_of q i lists mid new S p.answer m p.asks) (lawful q p.asks.was p.asks.is p.answer p.asks.asks) p.notes
 
 begun_told : (q : Query) (i : ℕ) (old mid : List Seen) (lists : List (List Entry)) (R : List Rejected) → told_of old ≡ all_told lists → Begun q i old mid R → Midway q i lists mid R
 unfolding Begun after
@@ -126,18 +120,18 @@ told_drops i (s ∷ old) new [] e d = absurd (apart e)
 told_drops i (s ∷ old) new (w ∷ ws) e (inl d) = let h = told_head s old w ws e in
     ap told_of d.1.1 ∙ ap₂ (λ o os. o ∷ os) h.0 (told_drops (i + 1) old d.1.0 ws h.1 d.1.2) ∙ ap all_told (kept (no_entry w) (stay d.0 h.0))
   where
-    stay : (None ≡ Some (i + 1)) ⊎ IsSpent s.told false → s.told ≡ Some w → no_entry w ≡ false
+    stay : (None ≡ Some (i + 1)) ⊎ IsSpent s false → s.told ≡ Some w → no_entry w ≡ false
     stay (inl e) f = absurd (nothing e)
       where
         nothing : None ≡ Some (i + 1) → ⊥
         nothing e = cc
-    stay (inr h) f = sym (subst (λ t. IsSpent t false) f h)
+    stay (inr h) f = sym (subst (λ t. IfSome t (λ es. false ≡ no_entry es)) f h.1)
 
     kept : (t : Bool) → t ≡ false → w ∷ unspent ws ≡ cond (not t) (w ∷ unspent ws) (unspent ws)
     kept true e = cc
     kept false e = refl
 told_drops i (s ∷ old) new (w ∷ ws) e (inr d) = let h = told_head s old w ws e in
-    told_drops (i + 1) old new ws h.1 d.1 ∙ ap all_told (gone (no_entry w) (sym (subst (λ t. IsSpent t true) h.0 d.0.1)))
+    told_drops (i + 1) old new ws h.1 d.1 ∙ ap all_told (gone (no_entry w) (sym (subst (λ t. IfSome t (λ es. true ≡ no_entry es)) h.0 d.0.1.1)))
   where
     gone : (t : Bool) → t ≡ true → unspent ws ≡ cond (not t) (w ∷ unspent ws) (unspent ws)
     gone true e = refl
@@ -157,7 +151,7 @@ walked q old new lists R (Some c) e r =
     p.now ∙ ap (λ o. slice_set (all_told (p.done ++ p.es ∷ p.rest)) r.place o) h.3
     ∙ ap (λ k. slice_set (all_told (p.done ++ p.es ∷ p.rest)) k (Some (take_out q p.es).entries)) (sym p.size)
     ∙ set_seam (λ es. Some es) p.done p.rest p.es (take_out q p.es).entries
-    ∙ sym (ap (λ w. all_told w.lists) (p.walks ∙ ap (after R p.done) (walk_fit q (r.place + 1) p.es p.rest h.0 c.1 h.1 h.2 r.asks.asks.lawful.passes)))
+    ∙ sym (ap (λ w. all_told w.lists) (p.walks ∙ ap (after R p.done) (walk_fit q (r.place + 1) p.es p.rest h.0 c.1 h.1 h.2 (lawful q r.asks.was r.asks.is (Ok (Fit c.1)) r.asks.asks).passes)))
 
 pub told_after : (q : Query) (old new : List Seen) (lists : List (List Entry)) (R : List Rejected) (valid : Option (ℕ × List (List ℕ))) → AreTold old lists → Consults q old new R valid → AreTold new (consulted q lists).lists
 told_after q old new lists R valid e c = told_drops 0 c.after new (walk q 1 lists).lists (walked q old c.after lists R valid e c.walks) c.drops

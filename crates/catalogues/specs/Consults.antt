@@ -1,6 +1,6 @@
 -- What asking catalogues comes to.
 use Rattle.std.proofs.Common.{[], false, length, true, suc, zero, ◌++◌, ◌∷◌}
-use Rattle.std.specs.Prelude.{All, IfSome, List, None, Option, Result, Some, drop, slice_set, slice_get, take, ℕ, ◌+◌, ◌≡◌, ◌≢◌, ◌≤◌, ◌⊎◌, ⊤}
+use Rattle.std.specs.Prelude.{All, IfSome, List, None, Option, Result, Some, drop, slice_set, slice_get, take, ℕ, ◌+◌, ◌≡◌, ◌≢◌, ◌≤◌, ◌⊎◌}
 use Rattle.std.specs.List.{remove}
 use Rattle.std.specs.declared.result.Result.TheVariants.{Err, Ok}
 use Rattle.design_base.specs.Canonical.{canonical}
@@ -9,9 +9,9 @@ use Rattle.design_base.specs.declared.query.Query.{Query}
 use Rattle.design_checks.specs.Findings.{finding}
 use Rattle.design_checks.specs.declared.finding.Finding.{Finding}
 use Rattle.design_checks.specs.declared.finding.Finding.TheVariants.{Valid as valid}
-use Rattle.design_io.specs.Faults.{Rose}
-use Rattle.catalogues.specs.Entries.{IsSpent, Seen, take_out}
-use Rattle.catalogues.specs.declared.catalogue.Entry.{Entry}
+use Rattle.design_io.specs.Faults.{counted}
+use Rattle.catalogues.specs.Entries.{Counts, Gives, IsSpent, Seen}
+use Rattle.catalogues.specs.Left.{AreAsked}
 use Rattle.catalogues.specs.declared.catalogue.OfferEnd.{OfferEnd}
 use Rattle.catalogues.specs.declared.catalogue.OfferEnd.TheVariants.{Failed, Memory}
 use Rattle.catalogues.specs.declared.outcome.Offered.{Offered}
@@ -39,27 +39,19 @@ IsExamined q B Nothing = ⊥
 IsExamined q B (Unfit found) = (found ≡ finding q (canonical B)) × (found ≢ valid)
 IsExamined q B (Fit C) = (C ≡ canonical B) × ((finding q C ≡ valid) × Meets q C)
 
--- of entries that are told, what the answer says of the first one of the question, and which stay
-abbrev pub IsToldAnswer : Query → List Entry → Option (List Entry) → Result Offered OfferEnd → Type 0
-IsToldAnswer q es new (Ok Nothing) = ((take_out q es).blocks ≡ None) × (new ≡ Some (take_out q es).entries)
-IsToldAnswer q es new (Ok (Unfit found)) = (B : List (List ℕ)) × ((take_out q es).blocks ≡ Some B) × (found ≡ finding q (canonical B)) × (new ≡ Some (take_out q es).entries)
-IsToldAnswer q es new (Ok (Fit C)) = (B : List (List ℕ)) × ((take_out q es).blocks ≡ Some B) × (C ≡ canonical B) × (new ≡ Some (take_out q es).entries)
-IsToldAnswer q es new (Err Failed) = new ≡ Some es
-IsToldAnswer q es new (Err Memory) = (new ≡ Some es) ⊎ (new ≡ Some (take_out q es).entries)
+-- what an offer came to: it was examined, or there was no memory for that
+abbrev pub ComesTo : Query → Result (Option (List (List ℕ))) OfferEnd → Result Offered OfferEnd → Type 0
+ComesTo q (Ok None) answer = answer ≡ Ok Nothing
+ComesTo q (Ok (Some B)) (Ok offered) = IsExamined q B offered
+ComesTo q (Ok (Some B)) (Err end) = end ≡ Memory
+ComesTo q (Err end) answer = answer ≡ Err end
 
--- whether entries are told or not, an offer is valid only where it is a design of the question, and a failure has raised the count
-abbrev pub IsAnswer : Query → ℕ → ℕ → Result Offered OfferEnd → Type 0
-IsAnswer q before now (Ok Nothing) = ⊤
-IsAnswer q before now (Ok (Unfit found)) = IsUnfit q found
-IsAnswer q before now (Ok (Fit C)) = IsFit q C
-IsAnswer q before now (Err Failed) = Rose before now
-IsAnswer q before now (Err Memory) = ⊤
-
--- one catalogue was asked
+-- one catalogue was asked, once
 pub record Asks (q : Query) (old new : Seen) (answer : Result Offered OfferEnd) : Type 0 where
-  pub later : old.failures ≤ new.failures
-  pub lawful : IsAnswer q old.failures new.failures answer
-  pub told : IfSome old.told (λ es. IsToldAnswer q es new.told answer)
+  pub offer : Result (Option (List (List ℕ))) OfferEnd
+  pub given : Gives q old new offer
+  pub counts : Counts old new offer
+  pub comes : ComesTo q offer answer
 
 -- the catalogue at place i was asked, and no other
 pub record StepAt (q : Query) (i : ℕ) (old new : List Seen) (answer : Result Offered OfferEnd) : Type 0 where
@@ -91,7 +83,7 @@ abbrev pub Steps : Query → ℕ → List Seen → List Seen → List Rejected �
 Steps q i old new S R (Ok None) = Passed q i old new S R
 Steps q i old new S R (Ok (Some C)) = StepAt q i old new (Ok (Fit C)) × (R ≡ S)
 Steps q i old new S R (Err (EndFailed number)) = StepAt q i old new (Err Failed) × (number ≡ i + 1)
-Steps q i old new S R (Err EndMemory) = (answer : Result Offered OfferEnd) × StepAt q i old new answer
+Steps q i old new S R (Err EndMemory) = (answer : Result Offered OfferEnd) × (answer ≢ Err Failed) × StepAt q i old new answer
 
 -- the catalogues before place i were asked, and then the one at place i
 pub record Reached (q : Query) (old new : List Seen) (number : ℕ) (R : List Rejected) (answer : Result Offered OfferEnd) : Type 0 where
@@ -107,26 +99,19 @@ WalksTo q old new R (Some p) = Reached q old new p.0 R (Ok (Fit p.1))
 
 abbrev pub EndsWalk : Query → List Seen → List Seen → ConsultEnd → Type 0
 EndsWalk q old new (EndFailed number) = (R : List Rejected) × Reached q old new number R (Err Failed)
-EndsWalk q old new EndMemory = (number : ℕ) × (R : List Rejected) × (answer : Result Offered OfferEnd) × Reached q old new number R answer
+EndsWalk q old new EndMemory = (number : ℕ) × (R : List Rejected) × (answer : Result Offered OfferEnd) × (answer ≢ Err Failed) × Reached q old new number R answer
 
--- the number of a catalogue is its place, from 1; the one that failed stays, and so does one that is not spent; one that is spent, where it tells its entries, holds none
+-- the number of a catalogue is its place, from 1; the one that failed stays, and so does one that is not spent
 abbrev pub MayStay : Option ℕ → ℕ → Seen → Type 0
-MayStay failed i s = (failed ≡ Some (i + 1)) ⊎ IsSpent s.told false
+MayStay failed i s = (failed ≡ Some (i + 1)) ⊎ IsSpent s false
 
 abbrev pub MayGo : Option ℕ → ℕ → Seen → Type 0
-MayGo failed i s = (failed ≢ Some (i + 1)) × IsSpent s.told true
+MayGo failed i s = (failed ≢ Some (i + 1)) × IsSpent s true
 
 -- the catalogues from place i on: the spent ones are dropped, but for the one that failed
 unfoldable pub Drops : Option ℕ → ℕ → List Seen → List Seen → Type 0
 Drops failed i [] new = new ≡ []
 Drops failed i (s ∷ old) new = (MayStay failed i s × ((rest : List Seen) × (new ≡ s ∷ rest) × Drops failed (i + 1) old rest)) ⊎ (MayGo failed i s × Drops failed (i + 1) old new)
-
--- these catalogues, the first of which had this place, were not asked: they stand at the end as they were, but for the spent ones
-pub record AreUnasked (failed : Option ℕ) (place : ℕ) (old new : List Seen) : Type 0 where
-  pub front : List Seen
-  pub rest : List Seen
-  pub parts : new ≡ front ++ rest
-  pub drops : Drops failed place old rest
 
 -- the catalogue at place i stays, or it is dropped
 pub record DropsAt (failed : Option ℕ) (i : ℕ) (old new : List Seen) : Type 0 where
@@ -163,22 +148,34 @@ pub record AreSound (q : Query) (R : List Rejected) (offer : Option (ℕ × List
   pub meets : IfSome offer (λ p. Meets q p.1)
   pub rejected : All (λ r. IsUnfit q r.finding) R
 
--- the catalogues behind a valid offer were not asked
-abbrev pub EndsAtValid : List Seen → List Seen → Option (ℕ × List (List ℕ)) → Type 0
-EndsAtValid old new offer = IfSome offer (λ p. AreUnasked None p.0 (drop p.0 old) new)
+-- the first n of the catalogues were asked, each once and without a failed offer, the others not, and then the spent ones were dropped
+pub record AsksFirst (n : ℕ) (old new : List Seen) : Type 0 where
+  pub after : List Seen
+  pub asked : AreAsked n old after
+  pub drops : Drops None 0 after new
 
--- the count of the catalogue with this number rose, and it stays; those behind it were not asked
+-- how many catalogues are asked: all, or those up to the one with a valid offer
+abbrev pub count_asked : {T : Type 0} → ℕ → Option (ℕ × T) → ℕ
+count_asked count None = count
+count_asked count (Some offer) = offer.0
+
+-- what is seen of a catalogue after an offer that failed
+abbrev pub after_failure : Seen → Seen
+after_failure s = record s { offers = counted s.offers; failures = counted s.failures }
+
+-- the offer of the catalogue with this number failed, and it stays; of those before it each was asked once, those behind it were not, and the spent ones among them were dropped
 pub record HasFailed (old new : List Seen) (number : ℕ) : Type 0 where
   pub place : ℕ
   pub counts : number ≡ place + 1
   pub was : Seen
   pub at : slice_get old place ≡ Some was
-  pub is : Seen
-  pub rose : Rose was.failures is.failures
-  pub left : ℕ
-  pub stays : slice_get new left ≡ Some is
-  pub behind : AreUnasked (Some number) number (drop number old) new
+  pub front : List Seen
+  pub rest : List Seen
+  pub parts : new ≡ front ++ after_failure was ∷ rest
+  pub before : AsksFirst place (take place old) front
+  pub behind : Drops None 0 (drop number old) rest
 
+-- how the asking ended: an offer failed, or there was no memory, and no offer had failed
 abbrev pub HasEnded : List Seen → List Seen → ConsultEnd → Type 0
 HasEnded old new (EndFailed number) = HasFailed old new number
-HasEnded old new EndMemory = ⊤
+HasEnded old new EndMemory = (n : ℕ) × AsksFirst n old new

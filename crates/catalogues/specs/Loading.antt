@@ -1,11 +1,10 @@
 -- What a catalogue over a source is seen as.
-use Rattle.std.specs.Prelude.{◌≡◌, ◌≤◌, ◌<◌, ℕ, Bool, false, List, [], length, IfSome, Option, Some, Result, Ok, Err, ⊤}
+use Rattle.std.specs.Prelude.{◌≡◌, ◌≤◌, ◌<◌, ℕ, Bool, false, List, [], length, IfSome, None, Option, Some, Result, Ok, Err, ⊤}
 use Rattle.design_base.specs.declared.limits.TheConstants.{INPUT_MAX}
 use Rattle.design_base.specs.declared.query.Query.{Query}
-use Rattle.design_io.specs.Faults.{counted}
 use Rattle.design_io.specs.Inputs.{IsInput, line_at}
 use Rattle.catalogues.specs.CatalogueText.{bad_line, catalogue_text, entries}
-use Rattle.catalogues.specs.Entries.{no_entry, take_out}
+use Rattle.catalogues.specs.Entries.{Seen, no_entry, take_out}
 use Rattle.catalogues.specs.declared.catalogue.Entry.{Entry}
 use Rattle.catalogues.specs.declared.catalogue.OfferEnd.{OfferEnd}
 use Rattle.catalogues.specs.declared.catalogue.OfferEnd.TheVariants.{Failed, Memory}
@@ -25,10 +24,11 @@ loading Unread = unread
 loading (Ready list) = ready list.entries
 loading (Broken end) = broken end
 
--- the source, how far it is loaded, and how many offers failed
+-- the source, how far it is loaded, how many offers were made, and how many of them failed
 pub record Sourced (S : Type 0) : Type 0 where
   pub source : S
   pub state : Loading
+  pub offers : ℕ
   pub failures : ℕ
 
 -- what a text is loaded as
@@ -83,14 +83,12 @@ pub record LoadsAndAnswers (left : Option (List ℕ)) (q : Query) (old new : Loa
   pub is_loaded : IsLoaded left old state
   pub answers : Answers q state new result
 
--- a failed offer is counted, and no other is
-abbrev pub failures_after : ℕ → Result (Option (List (List ℕ))) OfferEnd → ℕ
-failures_after before (Ok blocks) = before
-failures_after before (Err Failed) = counted before
-failures_after before (Err Memory) = before
-
 -- it is ready, and holds no entry
 abbrev pub is_ready_and_empty : Loading → Bool
 is_ready_and_empty unread = false
 is_ready_and_empty (ready es) = no_entry es
 is_ready_and_empty (broken end) = false
+
+-- it tells no entries
+abbrev pub seen_of : {S : Type 0} → Sourced S → Seen
+seen_of s = record { told = None; spent = is_ready_and_empty s.state; offers = s.offers; failures = s.failures }

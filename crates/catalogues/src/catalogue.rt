@@ -22,17 +22,18 @@ pub enum OfferEnd {
 
 /// What holds designs and gives them away.
 pub trait Catalogue: Drop {
-    /// What is seen of it: the entries that it holds, where it tells them, and the count of failed offers, which never falls and
-    /// ends at the last value of the type u64.
+    /// What is seen of it: the entries that it holds, where it tells them, whether it is spent, and the counts of offers and of failed
+    /// ones, which never fall and end at the last value of the type u64.
     ghost seen: { Self → Seen };
 
-    /// Takes out and gives the first entry of the question. `None` is that there is none. `Failed` comes only where the count
-    /// of failed offers rose, and `Memory` only for want of memory; after both the entries are as they were.
+    /// Takes out and gives the first entry of the question. `None` is that there is none. `Failed` comes only where the offer failed,
+    /// and `Memory` only for want of memory; after both the entries are as they were. The offer is counted, and so it is among the
+    /// failed ones exactly where it failed.
     fn offer(&mut self, q: &Query) -> Result<Option<Rows>, OfferEnd>
-        ensures given { Gives (seen self.old).told (seen self.new).told q.now result }
-        ensures cause { Counts (seen self.old).failures (seen self.new).failures result };
+        ensures given { Gives q.now (seen self.old) (seen self.new) result }
+        ensures counts { Counts (seen self.old) (seen self.new) result };
 
-    /// Whether it holds no entry.
+    /// Whether it is spent, that is, known to hold no entry.
     fn spent(&self) -> bool
-        ensures { IsSpent (seen self.now).told result };
+        ensures { IsSpent (seen self.now) result };
 }

@@ -7,7 +7,7 @@ use crate::catalogue::Catalogue;
 
 // Whether the catalogue is spent.
 fn is_spent(catalogue: &Box<dyn Catalogue>) -> bool
-    ensures { IsSpent (seen catalogue.now).told result }
+    ensures { IsSpent (seen catalogue.now) result }
 {
     catalogue.spent()
 }

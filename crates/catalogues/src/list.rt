@@ -1,7 +1,8 @@
 //! Entries in a list.
-ghost use Rattle.std.specs.Prelude.{◌≡◌, ◌↔◌, ◌++◌, [], ◌∷◌, Contains, IfErr, IsErr, IsTrue, MatchResult, OnErr, OnOk, Some, length};
+ghost use Rattle.std.specs.Prelude.{◌≡◌, ◌↔◌, ◌++◌, [], ◌∷◌, Contains, IfErr, IsErr, IsTrue, MatchResult, OnErr, OnOk, length};
+ghost use Rattle.design_io.specs.Faults.{counted};
 ghost use Rattle.catalogues.specs.Entries.{Counts, Gives, IsSpent, place_of as place_in, take_out};
-ghost use Rattle.catalogues.specs.Listed.{after_failed_offer, after_offer, unasked};
+ghost use Rattle.catalogues.specs.Listed.{after_failed_offer, after_offer, seen_of, unasked};
 
 use crate::catalogue::{Catalogue, Entry, OfferEnd};
 use design_base::{Memory, Query, is_same};
@@ -14,7 +15,7 @@ use std::marker::Model;
 pub struct ListCatalogue {
     entries: Vec<Entry>,
     failing: Vec<u32>,
-    next: u64,
+    offers: u64,
     failures: u64,
 }
 
@@ -26,7 +27,7 @@ impl Model for ListCatalogue {
     ghost view = { λ s. record {
       entries = s.entries.items;
       failing = s.failing.items;
-      next = s.next;
+      offers = s.offers;
       failures = s.failures;
     } };
 }
@@ -64,7 +65,7 @@ impl ListCatalogue {
         ListCatalogue {
             entries: Vec::new(alloc),
             failing,
-            next: 1,
+            offers: 0,
             failures: 0,
         }
     }
@@ -76,7 +77,7 @@ impl ListCatalogue {
         ListCatalogue {
             entries,
             failing: Vec::new(alloc),
-            next: 1,
+            offers: 0,
             failures: 0,
         }
     }
@@ -103,17 +104,18 @@ impl ListCatalogue {
 }
 
 impl Catalogue for ListCatalogue {
-    ghost seen = { λ s. record { told = Some s.entries; failures = s.failures } };
+    ghost seen = { seen_of };
 
     fn offer(&mut self, q: &Query) -> Result<Option<Rows>, OfferEnd>
-        ensures given { Gives (Some self.old.entries) (Some self.new.entries) q.now result }
-        ensures cause { Counts self.old.failures self.new.failures result }
-        ensures fails { IsErr result ↔ Contains self.old.failing self.old.next }
+        ensures given { Gives q.now (seen_of self.old) (seen_of self.new) result }
+        ensures counts { Counts (seen_of self.old) (seen_of self.new) result }
+        ensures fails { IsErr result ↔ Contains self.old.failing (counted self.old.offers) }
         ensures end { IfErr result (λ end. end ≡ OfferEnd.Failed) }
         ensures after { MatchResult result (λ _. self.new ≡ after_offer q.now self.old) (λ _. self.new ≡ after_failed_offer self.old) }
     {
-        let failed = fails(&self.failing, self.next);
-        self.next = self.next.saturating_add(1);
+        let number = self.offers.saturating_add(1);
+        let failed = fails(&self.failing, number);
+        self.offers = number;
         if failed {
             self.failures = self.failures.saturating_add(1);
             return Err(OfferEnd::Failed);
@@ -122,7 +124,7 @@ impl Catalogue for ListCatalogue {
     }
 
     fn spent(&self) -> bool
-        ensures { IsSpent (Some self.now.entries) result }
+        ensures { IsSpent (seen_of self.now) result }
     {
         self.entries.is_empty()
     }

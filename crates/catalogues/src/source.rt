@@ -1,9 +1,9 @@
 //! A catalogue whose text is read from a source when it is asked first.
-ghost use Rattle.std.specs.Prelude.{◌≡◌, ◌≢◌, ◌≤◌, Err, IfOk, None, length, true, false};
+ghost use Rattle.std.specs.Prelude.{◌≡◌, ◌≢◌, ◌≤◌, Err, None, length, true, false};
 ghost use Rattle.design_base.specs.declared.limits.TheConstants.{INPUT_MAX};
 ghost use Rattle.design_io.specs.Faults.{Rose};
-ghost use Rattle.catalogues.specs.Entries.{Counts, Gives, IsSpent};
-ghost use Rattle.catalogues.specs.Loading.{Answers, IsLoaded, IsReadToEnd, Loads, LoadedAs, LoadsAndAnswers, broken, failures_after, is_ready_and_empty, load_result, loading, refusal, unread};
+ghost use Rattle.catalogues.specs.Entries.{Counts, Gives, IsSpent, failures_after};
+ghost use Rattle.catalogues.specs.Loading.{Answers, IsLoaded, IsReadToEnd, Loads, LoadedAs, LoadsAndAnswers, broken, is_ready_and_empty, load_result, loading, refusal, seen_of, unread};
 
 use crate::catalogue::{Catalogue, OfferEnd};
 use crate::list::ListCatalogue;
@@ -42,6 +42,7 @@ pub struct SourceCatalogue<S: Source> {
     alloc: Global,
     source: S,
     state: State,
+    offers: u64,
     failures: u64,
 }
 
@@ -53,6 +54,7 @@ impl<S: Source> Model for SourceCatalogue<S> {
     ghost view = { λ s. record {
       source = s.source;
       state = loading s.state;
+      offers = s.offers;
       failures = s.failures;
     } };
 }
@@ -76,6 +78,7 @@ fn load_source<S: Source>(alloc: Global, source: &mut S) -> State
     ensures loads { Loads (S.left source.old) (loading result) }
     ensures end { IsReadToEnd (S.left source.old) (S.left source.new) (loading result) }
     ensures cause { loading result ≡ broken LoadEnd.Failed → Rose (S.faults source.old) (S.faults source.new) }
+    ensures kept { loading result ≢ broken LoadEnd.Failed → S.faults source.new ≡ S.faults source.old }
     ensures later { S.faults source.old ≤ S.faults source.new }
 {
     match read_all(alloc, source, INPUT_MAX) {
@@ -119,18 +122,19 @@ fn offer_from(state: &mut State, q: &Query) -> Result<Option<Rows>, OfferEnd>
 impl<S: Source> SourceCatalogue<S> {
     /// A catalogue over a source, of which nothing is read yet.
     pub fn new(alloc: Global, source: S) -> Self
-        ensures { result ≡ record { source = source; state = unread; failures = 0 } }
+        ensures { result ≡ record { source = source; state = unread; offers = 0; failures = 0 } }
     {
         SourceCatalogue {
             alloc,
             source,
             state: State::Unread,
+            offers: 0,
             failures: 0,
         }
     }
 
     /// Reads the source to its end. The catalogue is unread. It is ready then with the entries of the text, or broken by the
-    /// refusal. `Failed` comes only where the count of faults of the source rose, `TooLong` exactly where more than `INPUT_MAX`
+    /// refusal. `Failed` comes only where the count of faults of the source rose, which else stays, `TooLong` exactly where more than `INPUT_MAX`
     /// bytes came, with the line of the first one past them, `BadLine` exactly where the text that was read to its end is no
     /// catalogue text, with its first bad line, and `Memory` only for want of memory.
     pub fn load(&mut self) -> Result<(), LoadEnd>
@@ -139,8 +143,9 @@ impl<S: Source> SourceCatalogue<S> {
         ensures answer { result ≡ load_result self.new.state }
         ensures end { IsReadToEnd (S.left self.old.source) (S.left self.new.source) self.new.state }
         ensures cause { result ≡ Err LoadEnd.Failed → Rose (S.faults self.old.source) (S.faults self.new.source) }
+        ensures kept { result ≢ Err LoadEnd.Failed → S.faults self.new.source ≡ S.faults self.old.source }
         ensures later { S.faults self.old.source ≤ S.faults self.new.source }
-        ensures failures { self.new.failures ≡ self.old.failures }
+        ensures counts { (self.new.offers ≡ self.old.offers) × (self.new.failures ≡ self.old.failures) }
     {
         self.state = load_source(self.alloc, &mut self.source);
         result_of(&self.state)
@@ -149,7 +154,9 @@ impl<S: Source> SourceCatalogue<S> {
     // Loads the catalogue where it is unread.
     fn make_loaded(&mut self)
         ensures loaded { IsLoaded (S.left self.old.source) self.old.state self.new.state }
-        ensures failures { self.new.failures ≡ self.old.failures }
+        ensures source { self.old.state ≢ unread → self.new.source ≡ self.old.source }
+        ensures kept { self.new.state ≢ broken LoadEnd.Failed → S.faults self.new.source ≡ S.faults self.old.source }
+        ensures counts { (self.new.offers ≡ self.old.offers) × (self.new.failures ≡ self.old.failures) }
     {
         if is_unread(&self.state) {
             self.load().ok();
@@ -158,15 +165,17 @@ impl<S: Source> SourceCatalogue<S> {
 }
 
 impl<S: Source + Drop> Catalogue for SourceCatalogue<S> {
-    ghost seen = { λ s. record { told = None; failures = s.failures } };
+    ghost seen = { λ s. seen_of s };
 
     fn offer(&mut self, q: &Query) -> Result<Option<Rows>, OfferEnd>
-        ensures given { Gives None None q.now result }
-        ensures cause { Counts self.old.failures self.new.failures result }
+        ensures given { Gives q.now (seen_of self.old) (seen_of self.new) result }
+        ensures counts { Counts (seen_of self.old) (seen_of self.new) result }
         ensures answers { LoadsAndAnswers (S.left self.old.source) q.now self.old.state self.new.state result }
-        ensures failures { self.new.failures ≡ failures_after self.old.failures result }
+        ensures source { self.old.state ≢ unread → self.new.source ≡ self.old.source }
+        ensures kept { self.new.state ≢ broken LoadEnd.Failed → S.faults self.new.source ≡ S.faults self.old.source }
     {
         self.make_loaded();
+        self.offers = self.offers.saturating_add(1);
         let offered = offer_from(&mut self.state, q);
         if matches!(offered, Err(OfferEnd::Failed)) {
             self.failures = self.failures.saturating_add(1);
@@ -175,7 +184,7 @@ impl<S: Source + Drop> Catalogue for SourceCatalogue<S> {
     }
 
     fn spent(&self) -> bool
-        ensures spent { IsSpent None result }
+        ensures spent { IsSpent (seen_of self.now) result }
         ensures empty { result ≡ is_ready_and_empty self.now.state }
     {
         match &self.state {
