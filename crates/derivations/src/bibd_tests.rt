@@ -36,10 +36,11 @@ pub(crate) fn assert_design(
 ) {
     assert_eq!(rt; lines.len(), expected.lines);
     assert!(rt; 0 < lines.len());
-    let Ok((question, rows)) = replay(alloc, lines, tools) else {
+    let Ok(design) = replay(alloc, lines, tools) else {
         panic!(rt; "no design");
     };
-    assert_eq!(rt; question, expected.query);
+    let rows = design.blocks();
+    assert_eq!(rt; design.query(), expected.query);
     assert_eq!(rt; rows.len(), expected.blocks);
     assert!(rt; 0 < rows.len());
     assert_eq!(rt; rows.row(0), expected.first);
@@ -60,8 +61,8 @@ pub(crate) fn assert_built<L: Ledger>(
         panic!(rt; "not yes");
     };
     assert_eq!(rt; step, expected.step);
-    let lines = derive(alloc, &q, &step, tools, &mut PlainAsker, steps)?;
-    assert_design(rt, alloc, tools, &lines, expected);
+    let derivation = derive(alloc, &q, &step, tools, &mut PlainAsker, steps)?;
+    assert_design(rt, alloc, tools, derivation.lines(), expected);
     Ok(())
 }
 

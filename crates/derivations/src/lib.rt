@@ -14,13 +14,15 @@ mod made_bibds;
 mod names;
 mod pbd;
 mod replaying;
+mod sound_derivation;
 mod td;
 mod unfolding;
 
 pub use laws::derivation_laws;
 pub use line::{Derivation, Fault, Line, LineFault, ReplayEnd};
 pub use names::Names;
-pub use replaying::{last_list, replay};
+pub use replaying::{replay, replay_sound};
+pub use sound_derivation::SoundDerivation;
 pub use unfolding::derive;
 
 #[cfg(test)]

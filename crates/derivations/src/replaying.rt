@@ -2,6 +2,7 @@
 ghost use Rattle.std.specs.Prelude.{◌≡◌, ◌≢◌, ℕ, ◌+◌, ◌-◌, ◌<◌, ◌≤◌, true, length, map, Some, None, IfOk, IfErr, All, slice_index_or};
 ghost use Rattle.design_base.specs.Limits.{in_bounds};
 ghost use Rattle.design_base.specs.Meets.{Meets};
+ghost use Rattle.design_base.specs.declared.query.Query.{Query};
 ghost use Rattle.rule_table.specs.Candidates.{is_candidate, premises};
 ghost use Rattle.derivations.specs.AllMeet.{AllMeet};
 ghost use Rattle.derivations.specs.Blocks.{blocks};
@@ -12,8 +13,10 @@ ghost use Rattle.derivations.specs.Kept.{IsKept, kept_lists};
 use crate::building::build;
 use crate::faults::first_fault;
 use crate::line::{Derivation, Line, ReplayEnd};
-use design_base::{Memory, Query};
+use crate::sound_derivation::SoundDerivation;
+use design_base::Memory;
 use incidence::Rows;
+use proved_designs::Design;
 use rule_table::Tools;
 use std::alloc::Global;
 
@@ -58,9 +61,8 @@ fn let_go(kept: &mut [Option<Rows>], from: &[u64])
     }
 }
 
-/// The list of the last of the lines, which have no fault: a derivation that `derive` answers has none. The list of each line is kept up
-/// to its last use: no two lines name it. The answer is `Memory` only for want of memory.
-pub fn last_list(alloc: Global, lines: &[Line]) -> Result<Rows, Memory>
+// The list of the last of the lines, which have no fault. The list of each line is kept up to its last use: no two lines name it.
+fn list_of_lines(alloc: Global, lines: &[Line]) -> Result<Rows, Memory>
     requires { IsSound lines.now }
     ensures list { IfOk result (λ rows. rows ≡ replayed lines.now) }
     ensures meets { (q : Query) → last_question lines.now ≡ Some q → IfOk result (λ rows. Meets q rows) }
@@ -80,20 +82,38 @@ pub fn last_list(alloc: Global, lines: &[Line]) -> Result<Rows, Memory>
     }
 }
 
-/// The question of the last line and the design that the lines lead to.
+// The design of the last of the lines, which have no fault.
+#[tactic(auto, using(crate::proofs::Replays::sound_bounds))]
+fn design_of_lines(alloc: Global, lines: &Derivation) -> Result<Design, Memory>
+    requires { IsSound lines.now }
+    ensures question { IfOk result (λ design. last_question lines.now ≡ Some design.query) }
+    ensures list { IfOk result (λ design. design.blocks ≡ replayed lines.now) }
+{
+    let question = lines.line(lines.len() - 1).query;
+    let blocks = list_of_lines(alloc, lines.as_slice())?;
+    Ok(Design::new(question, blocks))
+}
+
+/// The design that a derivation without a fault leads to: that of its last question. Nothing is searched for faults. The list of a line
+/// is lent to the line that cites it, and let go after it. The answer is `Memory` only for want of memory.
+pub fn replay_sound(alloc: Global, derivation: &SoundDerivation) -> Result<Design, Memory>
+    ensures question { IfOk result (λ design. last_question derivation.now ≡ Some design.query) }
+    ensures list { IfOk result (λ design. design.blocks ≡ replayed derivation.now) }
+{
+    let design = design_of_lines(alloc, derivation.lines())?;
+    Ok(design)
+}
+
+/// The design that the lines lead to: that of the last question.
 ///
 /// There is a line. The answer is `BadLine` exactly where the lines have a fault, and names the first; `Memory` comes only for
-/// want of memory. All faults are found before the first list is made. The list of a line is lent to the line that names it, and
-/// let go after it.
-#[tactic(auto, using(crate::proofs::Replays::sound_bounds))]
-pub fn replay(alloc: Global, lines: &Derivation, tools: &Tools) -> Result<(Query, Rows), ReplayEnd>
+/// want of memory. All faults are found before the first list is made, and then the lines are replayed as by `replay_sound`.
+pub fn replay(alloc: Global, lines: &Derivation, tools: &Tools) -> Result<Design, ReplayEnd>
     requires { 0 < length lines.now }
-    ensures sound { IfOk result (λ r. IsSound lines.now) }
-    ensures question { IfOk result (λ r. last_question lines.now ≡ Some r.0) }
-    ensures bounds { IfOk result (λ r. in_bounds r.0 ≡ true) }
-    ensures list { IfOk result (λ r. r.1 ≡ replayed lines.now) }
-    ensures meets { IfOk result (λ r. Meets r.0 r.1) }
-    ensures end { IfErr result (λ e. EndIs lines.now e) }
+    ensures sound { IfOk result (λ design. IsSound lines.now) }
+    ensures question { IfOk result (λ design. last_question lines.now ≡ Some design.query) }
+    ensures list { IfOk result (λ design. design.blocks ≡ replayed lines.now) }
+    ensures end { IfErr result (EndIs lines.now) }
 {
     if let Some(found) = first_fault(alloc, lines.as_slice(), tools)? {
         return Err(ReplayEnd::BadLine {
@@ -101,7 +121,6 @@ pub fn replay(alloc: Global, lines: &Derivation, tools: &Tools) -> Result<(Query
             fault: found.fault,
         });
     }
-    let question = lines.line(lines.len() - 1).query;
-    let rows = last_list(alloc, lines.as_slice())?;
-    Ok((question, rows))
+    let design = design_of_lines(alloc, lines)?;
+    Ok(design)
 }

@@ -1,8 +1,11 @@
 // Derivations, faults and designs that were computed elsewhere.
 ghost use Rattle.std.specs.Prelude.{◌≡◌, ◌<◌};
 
-use crate::{Derivation, Line, LineFault, Names, ReplayEnd, derive, replay};
+use crate::{
+    Derivation, Line, LineFault, Names, ReplayEnd, SoundDerivation, derive, replay, replay_sound,
+};
 use design_base::{Memory, Query, Rule, Step, Verdict, in_bounds};
+use proved_designs::Design;
 use rule_table::{PlainAsker, Steps, Tools, evaluate};
 use std::alloc::Global;
 use std::marker::Brand;
@@ -47,6 +50,16 @@ fn assert_lines(rt: &impl Abort, lines: &Derivation, rows: &[Row]) {
     }
 }
 
+// A design with k groups of n points, whose n * n blocks begin with these two.
+fn assert_begins(rt: &impl Abort, design: &Design, k: u16, n: u16, first: &[u16], second: &[u16]) {
+    let rows = design.blocks();
+    assert_eq!(rt; design.query(), Query::Td { k, n });
+    assert_eq!(rt; rows.len(), n as usize * n as usize);
+    assert!(rt; 1 < rows.len());
+    assert_eq!(rt; rows.row(0), first);
+    assert_eq!(rt; rows.row(1), second);
+}
+
 // The lines lead to the design with k groups of n points, whose n * n blocks begin with these two.
 fn assert_design(
     rt: &impl Abort,
@@ -59,14 +72,10 @@ fn assert_design(
     second: &[u16],
 ) {
     assert!(rt; 0 < lines.len());
-    let Ok((question, rows)) = replay(alloc, lines, tools) else {
+    let Ok(design) = replay(alloc, lines, tools) else {
         panic!(rt; "no design");
     };
-    assert_eq!(rt; question, Query::Td { k, n });
-    assert_eq!(rt; rows.len(), n as usize * n as usize);
-    assert!(rt; 1 < rows.len());
-    assert_eq!(rt; rows.row(0), first);
-    assert_eq!(rt; rows.row(1), second);
+    assert_begins(rt, &design, k, n, first, second);
 }
 
 // The derivation of the question, whose verdict is yes.
@@ -77,7 +86,7 @@ fn derived<L: Ledger>(
     steps: &mut Steps<L>,
     k: u16,
     n: u16,
-) -> Result<Derivation, Memory> {
+) -> Result<SoundDerivation, Memory> {
     let q = Query::Td { k, n };
     assert!(rt; in_bounds(&q));
     let Verdict::Yes(step) = evaluate(&q, tools, steps) else {
@@ -98,10 +107,11 @@ fn assert_derivations<L: Ledger>(
     requires some { 0 < blank.parts }
 {
     let mut steps = Steps::<L>::new(blank);
-    let lines = derived(rt, alloc, tools, &mut steps, 4, 18)?;
+    let derivation = derived(rt, alloc, tools, &mut steps, 4, 18)?;
+    let lines = derivation.lines();
     assert_lines(
         rt,
-        &lines,
+        lines,
         &[
             (5, 5, field(), &[]),
             (4, 3, field(), &[]),
@@ -111,18 +121,21 @@ fn assert_derivations<L: Ledger>(
         ],
     );
     let (first, second) = ([0, 18, 51, 56], [0, 19, 38, 69]);
-    assert_design(rt, alloc, tools, &lines, 4, 18, &first, &second);
-    let lines = derived(rt, alloc, tools, &mut steps, 4, 10)?;
+    assert_design(rt, alloc, tools, lines, 4, 18, &first, &second);
+    let design = replay_sound(alloc, &derivation)?;
+    assert_begins(rt, &design, 4, 18, &first, &second);
+    let derivation = derived(rt, alloc, tools, &mut steps, 4, 10)?;
+    let lines = derivation.lines();
     assert_lines(
         rt,
-        &lines,
+        lines,
         &[
             (4, 3, field(), &[]),
             (4, 10, Step::new(Rule::Parker, 3, 0, 0, 0), &[1]),
         ],
     );
     let (first, second) = ([0, 10, 20, 30], [0, 11, 26, 37]);
-    assert_design(rt, alloc, tools, &lines, 4, 10, &first, &second);
+    assert_design(rt, alloc, tools, lines, 4, 10, &first, &second);
     assert_nested(rt, alloc, tools, &mut steps)
 }
 
@@ -133,10 +146,11 @@ fn assert_nested<L: Ledger>(
     tools: &Tools,
     steps: &mut Steps<L>,
 ) -> Result<(), Memory> {
-    let lines = derived(rt, alloc, tools, steps, 4, 30)?;
+    let derivation = derived(rt, alloc, tools, steps, 4, 30)?;
+    let lines = derivation.lines();
     assert_lines(
         rt,
-        &lines,
+        lines,
         &[
             (4, 3, field(), &[]),
             (4, 3, field(), &[]),
@@ -145,7 +159,7 @@ fn assert_nested<L: Ledger>(
         ],
     );
     let (first, second) = ([0, 30, 60, 90], [0, 31, 66, 97]);
-    assert_design(rt, alloc, tools, &lines, 4, 30, &first, &second);
+    assert_design(rt, alloc, tools, lines, 4, 30, &first, &second);
     Ok(())
 }
 

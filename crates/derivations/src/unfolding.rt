@@ -3,13 +3,13 @@ ghost use Rattle.std.specs.Prelude.{◌≡◌, true, ◌++◌, length, Some, IfO
 ghost use Rattle.design_base.specs.Limits.{in_bounds};
 ghost use Rattle.design_base.specs.declared.verdict.Verdict.TheVariants.{Yes};
 ghost use Rattle.rule_table.specs.Verdicts.{verdict};
-ghost use Rattle.derivations.specs.Derivations.{derivation, derivation_behind, last_question, replayed, IsSound};
+ghost use Rattle.derivations.specs.Derivations.{derivation, derivation_behind, last_question, replayed};
 ghost use Rattle.design_base.specs.Meets.{Meets};
-ghost use Rattle.derivations.specs.Spelled.{ArePrintable};
 ghost use Rattle.rule_table.specs.Told.{KeptAfter};
 
 use crate::line::{Derivation, Line};
 use crate::names::Names;
+use crate::sound_derivation::SoundDerivation;
 use design_base::{Memory, Query, Step, Verdict};
 use rule_table::{Asker, Steps, Tools, premises};
 use std::alloc::Global;
@@ -55,9 +55,9 @@ fn unfold<A: Asker, L: Ledger>(
 /// The derivation of a question: the lines that lead to a design of it. For each premise of the step in order come the lines
 /// of its own derivation, and then the line of the question, which cites the last line of each.
 ///
-/// The question is in bounds, and its verdict is yes by this step. No line names more than `PREMISES_MAX` others. The answer is
-/// `Memory` only for want of memory. After it too the asker asks the same memo, and where it tells the cells that it knows, it
-/// keeps them, has learned those of questions of smaller rank alone, and has counted at most one step for each new one.
+/// The question is in bounds, and its verdict is yes by this step. The answer is `Memory` only for want of memory. After it too
+/// the asker asks the same memo, and where it tells the cells that it knows, it keeps them, has learned those of questions of
+/// smaller rank alone, and has counted at most one step for each new one.
 pub fn derive<A: Asker, L: Ledger>(
     alloc: Global,
     q: &Query,
@@ -65,12 +65,10 @@ pub fn derive<A: Asker, L: Ledger>(
     tools: &Tools,
     asker: &mut A,
     steps: &mut Steps<L>,
-) -> Result<Derivation, Memory>
+) -> Result<SoundDerivation, Memory>
     requires bounds { in_bounds q.now ≡ true }
     requires verdict { verdict q.now ≡ Yes step.now }
     ensures lines { IfOk result (λ lines. lines ≡ derivation q.now) }
-    ensures sound { IfOk result IsSound }
-    ensures few { IfOk result ArePrintable }
     ensures question { IfOk result (λ lines. last_question lines ≡ Some q.now) }
     ensures design { IfOk result (λ lines. Meets q.now (replayed lines)) }
     ensures memo { A.memo asker.new ≡ A.memo asker.old }
@@ -78,5 +76,5 @@ pub fn derive<A: Asker, L: Ledger>(
 {
     let mut lines = Derivation::new(alloc);
     unfold(alloc, q, step, tools, asker, steps, &mut lines)?;
-    Ok(lines)
+    Ok(SoundDerivation::new(lines))
 }

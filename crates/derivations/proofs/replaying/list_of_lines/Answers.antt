@@ -5,7 +5,7 @@ use Rattle.derivations.specs.Kept.{kept_lists}
 use Rattle.design_base.specs.Meets.{Meets}
 use Rattle.derivations.specs.Derivations.{lists_named, replayed}
 use Rattle.derivations.proofs.Running.{Running, running_begins, ready, running_goes_on, refilled, last_is, running_meets}
-use Rattle.derivations.proofs.replaying.last_list.Goals as goal
+use Rattle.derivations.proofs.replaying.list_of_lines.Goals as goal
 
 pub loop-line-init : goal.loop-line-init
 loop-line-init c = subst (Running c.args.lines.now 0) (sym c.new-kept.ensures.items) (running_begins c.args.lines.now c.requires)
