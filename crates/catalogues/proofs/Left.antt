@@ -1,12 +1,11 @@
 -- What is left of catalogues that were asked.
-use Rattle.std.proofs.Common.{List, [], add-one, ap, arith, inl, inr, length, map, refl, slice_set, subst, suc, sym, zero, ℕ, ◌+◌, ◌∙◌, ◌∷◌, ◌≡◌, ◌≢◌, ◌≤◌}
-use Rattle.std.proofs.lemmas.List.{length-map}
+use Rattle.std.proofs.Common.{List, [], add-one, ap, arith, inl, inr, length, refl, slice_set, subst, suc, sym, zero, ℕ, ◌+◌, ◌∙◌, ◌∷◌, ◌≡◌, ◌≢◌, ◌≤◌}
 use Rattle.std.proofs.lemmas.Option.{same_Some}
 use Rattle.std.specs.Prelude.{None, Option, Result, Some, slice_get}
 use Rattle.std.specs.declared.result.Result.TheVariants.{Err, Ok}
 use Rattle.design_base.specs.declared.query.Query.{Query}
 use Rattle.catalogues.proofs.Offers.{is_asked, unfailed}
-use Rattle.catalogues.specs.Consults.{AsksFirst, Begun, Consults, Drops, EndsConsult, EndsWalk, Notes, Reached, StepAt, WalksTo, count_asked}
+use Rattle.catalogues.specs.Consults.{AsksFirst, Begun, Consults, Drops, EndsAtValid, EndsConsult, EndsWalk, Notes, Reached, StepAt, WalksTo, count_asked}
 use Rattle.catalogues.specs.Entries.{Seen}
 use Rattle.catalogues.specs.Left.{AreAsked, AreLeft, AreLeftBy, AreUnfailed, AskedTimes, Becomes, BecomesUnfailed, IsAsked}
 use Rattle.catalogues.specs.declared.catalogue.OfferEnd.{OfferEnd}
@@ -124,6 +123,11 @@ asked_none : (old : List Seen) → AreAsked 0 old old
 unfolding AreAsked
 asked_none old = refl
 
+-- there is none to ask
+pub asks_none : AsksFirst 0 [] []
+unfolding AreAsked Drops
+asks_none = record { after = []; asked = refl; drops = refl }
+
 asked_next : (n : ℕ) (old mid new : List Seen) (was is : Seen) → AreAsked n old mid → slice_get mid n ≡ Some was → new ≡ slice_set mid n is → IsAsked was is → is.failures ≡ was.failures → AreAsked (suc n) old new
 unfolding AreAsked
 asked_next zero [] mid new was is h at after a f = absurd (nothing (sym (ap (λ xs. slice_get xs 0) h) ∙ at))
@@ -158,11 +162,8 @@ asked_walk q old new R None b = asked_begun q (length old) old new R b
 asked_walk q old new R (Some p) r = asked_reached q old new p.0 R (Ok (Fit p.1)) r (λ e. cc)
 
 -- the first ones were asked, up to a valid offer or the want of memory
-pub asks_first : (q : Query) (old new : List Seen) (R : List Rejected) (valid : Option (ℕ × List (List ℕ))) → Consults q old new R valid → AsksFirst (count_asked (length old) valid) old new
+pub asks_first : (q : Query) (old new : List Seen) (R : List Rejected) (valid : Option (ℕ × List (List ℕ))) → Consults q old new R valid → EndsAtValid old new valid
 asks_first q old new R valid c = record { after = c.after; asked = asked_walk q old c.after R valid c.walks; drops = c.drops }
-
-pub asks_seen : {X : Type 0} (see : X → Seen) (q : Query) (xs : List X) (new : List Seen) (R : List Rejected) (valid : Option (ℕ × List (List ℕ))) → Consults q (map see xs) new R valid → AsksFirst (count_asked (length xs) valid) (map see xs) new
-asks_seen see q xs new R valid c = subst (λ n. AsksFirst (count_asked n valid) (map see xs) new) (length-map xs see) (asks_first q (map see xs) new R valid c)
 
 pub asks_cut : (q : Query) (old new : List Seen) → EndsConsult q old new EndMemory → (n : ℕ) × AsksFirst n old new
 asks_cut q old new c = let w = c.walks in (w.0, record { after = c.after; asked = asked_reached q old c.after w.0 w.1 w.2 w.4 w.3; drops = c.drops })

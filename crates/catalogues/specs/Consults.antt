@@ -159,6 +159,9 @@ abbrev pub count_asked : {T : Type 0} → ℕ → Option (ℕ × T) → ℕ
 count_asked count None = count
 count_asked count (Some offer) = offer.0
 
+abbrev pub EndsAtValid : List Seen → List Seen → Option (ℕ × List (List ℕ)) → Type 0
+EndsAtValid old new offer = AsksFirst (count_asked (length old) offer) old new
+
 -- what is seen of a catalogue after an offer that failed
 abbrev pub after_failure : Seen → Seen
 after_failure s = record s { offers = counted s.offers; failures = counted s.failures }

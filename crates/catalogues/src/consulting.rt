@@ -2,7 +2,7 @@
 ghost use Rattle.std.specs.Prelude.{◌≡◌, ◌<◌, ◌^◌, length, map, IfErr, IfOk, MatchResult, None, Some, true};
 ghost use Rattle.design_base.specs.Limits.{in_bounds};
 ghost use Rattle.catalogues.specs.Consulted.{IsConsulted};
-ghost use Rattle.catalogues.specs.Consults.{AreSound, AsksFirst, Consults, EndsConsult, HasEnded, count_asked, failed_of};
+ghost use Rattle.catalogues.specs.Consults.{AreSound, Consults, EndsAtValid, EndsConsult, HasEnded, failed_of};
 ghost use Rattle.catalogues.specs.Left.{AreLeft};
 
 use crate::asking::walk;
@@ -61,7 +61,7 @@ pub fn consult(
         (λ end. EndsConsult q.now (map seen list.old.items) (map seen list.new.items) end) }
     ensures told { IfOk result (λ c. IsConsulted q.now (map seen list.old.items) (map seen list.new.items) c.rejected c.valid) }
     ensures sound { IfOk result (λ c. AreSound q.now c.rejected c.valid) }
-    ensures ends { IfOk result (λ c. AsksFirst (count_asked (length list.old.items) c.valid) (map seen list.old.items) (map seen list.new.items)) }
+    ensures ends { IfOk result (λ c. EndsAtValid (map seen list.old.items) (map seen list.new.items) c.valid) }
     ensures cause { IfErr result (λ end. HasEnded (map seen list.old.items) (map seen list.new.items) end) }
     ensures left { AreLeft (map seen list.old.items) (map seen list.new.items) }
 {

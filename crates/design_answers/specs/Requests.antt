@@ -1,7 +1,8 @@
 -- What the program answers to a request: the verdict on a question, and what is said of it; and to `workload`.
 -- The catalogues that are asked for open questions hold the entries `lists`, one list each.
-use Rattle.std.specs.Prelude.{ℕ, ◌≡◌, Bool, true, false, ◌&&◌, ◌||◌, List, [], ◌∷◌, ◌++◌, codes, length, Result, Ok, Err}
+use Rattle.std.specs.Prelude.{ℕ, ◌≡◌, Bool, true, false, ◌&&◌, ◌||◌, List, [], ◌∷◌, ◌++◌, codes, length, None, Option, Some, Result, Ok, Err}
 use Rattle.catalogues.specs.Consulted.{consulted}
+use Rattle.catalogues.specs.Consults.{count_asked}
 use Rattle.catalogues.specs.Entries.{Seen}
 use Rattle.catalogues.specs.declared.catalogue.Entry.{Entry}
 use Rattle.criteria.specs.Criteria.{numbers_of}
@@ -101,6 +102,20 @@ verb_leaves verb q lists = lists
 
 abbrev pub lists_after : Request → List (List Entry) → List (List Entry)
 lists_after request lists = verb_leaves request.verb request.query lists
+
+-- how many catalogues are asked, where some are: all, or those up to a design
+abbrev pub asked_by : Query → Verdict → List (List Entry) → Option ℕ
+asked_by q (YesVerdict step) lists = None
+asked_by q (NoVerdict criterion) lists = None
+asked_by q UnknownVerdict lists = Some (count_asked (length lists) (consulted q lists).valid)
+
+abbrev pub verb_asks : Verb → Query → List (List Entry) → Option ℕ
+verb_asks Ask q lists = asked_by q (verdict q) lists
+verb_asks Build q lists = asked_by q (verdict q) lists
+verb_asks verb q lists = None
+
+abbrev pub asked_for : Request → List (List Entry) → Option ℕ
+asked_for request lists = verb_asks request.verb request.query lists
 
 -- whether the answer takes memory, by what is seen of the catalogues
 abbrev pub asks_some : Bool → List Seen → Bool

@@ -2,7 +2,7 @@
 ghost use Rattle.std.specs.Prelude.{◌≡◌, ◌≢◌, ◌<◌, ◌^◌, ℕ, false, length, map, true};
 ghost use Rattle.catalogues.specs.Left.{AreLeft};
 ghost use Rattle.design_answers.specs.Answered.{AnswersOn, HasOfferFault};
-ghost use Rattle.design_answers.specs.Requests.{asks_catalogues, lists_after, request_report, takes_memory};
+ghost use Rattle.design_answers.specs.Requests.{asked_for, asks_catalogues, lists_after, request_report, takes_memory};
 ghost use Rattle.design_base.specs.Limits.{in_bounds};
 ghost use Rattle.design_reports.specs.Answers.{HasFault, IsAnswer};
 
@@ -29,7 +29,7 @@ pub fn answer_request<K: Sink, A: Asker + Drop, L: Ledger>(
 ) -> Ending
     requires bounds { in_bounds request.query ≡ true }
     requires few { length catalogues.old.items < 2 ^ 32 }
-    ensures ends { AnswersOn (map seen catalogues.old.items) (map seen catalogues.new.items) (request_report request) (lists_after request) result (K.held out.old) (K.held out.new) }
+    ensures ends { AnswersOn (map seen catalogues.old.items) (map seen catalogues.new.items) (request_report request) (lists_after request) (asked_for request) result (K.held out.old) (K.held out.new) }
     ensures cause { HasFault result (K.faults out.old) (K.faults out.new) }
     ensures offer { (number : ℕ) → result ≡ Ending.CatalogueFault number → HasOfferFault (asks_catalogues request) (map seen catalogues.old.items) (map seen catalogues.new.items) number }
     ensures left { AreLeft (map seen catalogues.old.items) (map seen catalogues.new.items) }

@@ -6,7 +6,7 @@ ghost use Rattle.catalogues.specs.Left.{AreLeft};
 ghost use Rattle.design_answers.specs.Answered.{AnswersOn, HasOfferFault};
 ghost use Rattle.design_answers.specs.Draws.{is_unknown};
 ghost use Rattle.design_answers.specs.Offers.{consulted_report};
-ghost use Rattle.design_answers.specs.Requests.{ask_report, asks_some, left_by};
+ghost use Rattle.design_answers.specs.Requests.{ask_report, asked_by, asks_some, left_by};
 ghost use Rattle.design_base.specs.Limits.{in_bounds};
 ghost use Rattle.design_reports.specs.Answers.{HasFault, IsAnswer};
 ghost use Rattle.rule_table.specs.Verdicts.{verdict as verdict_of};
@@ -30,7 +30,7 @@ fn answer_open<K: Sink, A: Asker + Drop, L: Ledger>(
 ) -> Ending
     requires bounds { in_bounds query.now ≡ true }
     requires few { length catalogues.old.items < 2 ^ 32 }
-    ensures ends { AnswersOn (map seen catalogues.old.items) (map seen catalogues.new.items) (consulted_report query.now) (λ lists. (consulted query.now lists).lists) result (K.held out.old) (K.held out.new) }
+    ensures ends { AnswersOn (map seen catalogues.old.items) (map seen catalogues.new.items) (consulted_report query.now) (λ lists. (consulted query.now lists).lists) (asked_by query.now Verdict.Unknown) result (K.held out.old) (K.held out.new) }
     ensures cause { HasFault result (K.faults out.old) (K.faults out.new) }
     ensures offer { (number : ℕ) → result ≡ Ending.CatalogueFault number → HasFailed (map seen catalogues.old.items) (map seen catalogues.new.items) number }
     ensures left { AreLeft (map seen catalogues.old.items) (map seen catalogues.new.items) }
@@ -56,7 +56,7 @@ pub fn answer_ask<K: Sink, A: Asker + Drop, L: Ledger>(
 ) -> Ending
     requires bounds { in_bounds query.now ≡ true }
     requires few { length catalogues.old.items < 2 ^ 32 }
-    ensures ends { AnswersOn (map seen catalogues.old.items) (map seen catalogues.new.items) (ask_report query.now (verdict_of query.now)) (left_by query.now (verdict_of query.now)) result (K.held out.old) (K.held out.new) }
+    ensures ends { AnswersOn (map seen catalogues.old.items) (map seen catalogues.new.items) (ask_report query.now (verdict_of query.now)) (left_by query.now (verdict_of query.now)) (asked_by query.now (verdict_of query.now)) result (K.held out.old) (K.held out.new) }
     ensures cause { HasFault result (K.faults out.old) (K.faults out.new) }
     ensures offer { (number : ℕ) → result ≡ Ending.CatalogueFault number → HasOfferFault (is_unknown (verdict_of query.now)) (map seen catalogues.old.items) (map seen catalogues.new.items) number }
     ensures left { AreLeft (map seen catalogues.old.items) (map seen catalogues.new.items) }

@@ -4,7 +4,6 @@ ghost use Rattle.std.specs.List.{flat_map};
 ghost use Rattle.criteria.specs.Criteria.{criterion_of, numbers_of};
 ghost use Rattle.derivation_text.specs.Text.{derivation_lines};
 ghost use Rattle.design_base.specs.Limits.{in_bounds};
-ghost use Rattle.derivations.specs.Spelled.{ArePrintable};
 ghost use Rattle.design_answers.specs.Requests.{reason_lines};
 ghost use Rattle.design_io.specs.Faults.{HasCause};
 ghost use Rattle.design_io.specs.Pieces.{AppendsWhole};
@@ -16,7 +15,7 @@ ghost use Rattle.rule_table.specs.Verdicts.{verdict as verdict_of};
 use crate::oracle::Oracle;
 use criteria::numbers;
 use derivation_text::print_v1;
-use derivations::Derivation;
+use derivations::SoundDerivation;
 use design_base::{Criterion, Query, Step, Verdict};
 use design_io::{Failed, Sink};
 use design_reports::{Ending, write_because, write_verdict};
@@ -44,19 +43,22 @@ fn write_derivation<K: Sink>(
     out: &mut K,
     query: &Query,
     step: &Step,
-    derivation: &Derivation,
+    derivation: &SoundDerivation,
 ) -> Result<(), Failed>
-    requires { ArePrintable derivation.now }
     ensures bytes { AppendsWhole (K.held out.old) (K.held out.new) result (verdict_text query.now (Verdict.Yes step.now) ++ flat_map (λ line. line) (derivation_lines derivation.now)) }
     ensures cause { HasCause (K.faults out.old) (K.faults out.new) result }
 {
     write_verdict(out, query, &Verdict::Yes(*step))?;
-    print_v1(derivation, out)
+    print_v1(derivation.lines(), out)
 }
 
 // Explains a question that the table of rules answers by yes, by its derivation.
-fn explain_yes<K: Sink>(query: &Query, step: &Step, derivation: &Derivation, out: &mut K) -> Ending
-    requires { ArePrintable derivation.now }
+fn explain_yes<K: Sink>(
+    query: &Query,
+    step: &Step,
+    derivation: &SoundDerivation,
+    out: &mut K,
+) -> Ending
     ensures ends { EndsWith (verdict_report query.now (Verdict.Yes step.now) (derivation_lines derivation.now)) result (K.held out.old) (K.held out.new) }
     ensures cause { HasFault result (K.faults out.old) (K.faults out.new) }
     ensures answered { IsAnswer result }

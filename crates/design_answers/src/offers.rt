@@ -15,9 +15,10 @@ use design_base::{Query, Verdict};
 use design_io::{Failed, Sink};
 use design_lines::Shape;
 use design_reports::{
-    Ending, Part, part_of_blocks, write_part, write_refused_offer, write_valid_offer, write_verdict,
+    Ending, Part, part_of_design, write_part, write_refused_offer, write_valid_offer, write_verdict,
 };
 use incidence::Rows;
+use proved_designs::Design;
 use std::alloc::Global;
 
 /// The number of the catalogue whose offer is a design, and how many blocks that has.
@@ -145,7 +146,8 @@ pub fn answer_handed<K: Sink>(
     };
     let (number, blocks) = offer;
     let count = blocks.len();
-    let Ok(part) = part_of_blocks(alloc, query, shape, blocks) else {
+    let design = Design::new(*query, blocks);
+    let Ok(part) = part_of_design(alloc, design, shape) else {
         return Ending::NoMemory;
     };
     match write_handed(out, query, refused, (number, count), &part) {

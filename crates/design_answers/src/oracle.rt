@@ -1,33 +1,32 @@
 //! What the answers to questions are asked of.
-ghost use Rattle.std.specs.Prelude.{◌≡◌, ◌<◌, ◌≤◌, ◌+◌, ◌^◌, IfErr, IfOk, length, map, true};
+ghost use Rattle.std.specs.Prelude.{◌≡◌, ◌<◌, ◌≤◌, ◌+◌, ◌^◌, IfErr, IfOk, MatchResult, Some, length, map, true};
 ghost use Rattle.catalogues.specs.Consulted.{IsConsulted};
-ghost use Rattle.catalogues.specs.Consults.{AreSound, HasEnded};
+ghost use Rattle.catalogues.specs.Consults.{AreSound, Consults, EndsAtValid, EndsConsult, HasEnded};
 ghost use Rattle.catalogues.specs.Left.{AreLeft};
 ghost use Rattle.design_answers.specs.Draws.{drawn, drawn_cells, is_no, is_unknown};
-ghost use Rattle.derivations.specs.Derivations.{IsSound, derivation, replayed};
+ghost use Rattle.derivations.specs.Derivations.{derivation, last_question, replayed};
 ghost use Rattle.design_base.specs.Limits.{in_bounds};
 ghost use Rattle.design_base.specs.declared.limits.TheConstants.{WORKLOAD_MAX};
 ghost use Rattle.design_base.specs.Meets.{Meets};
 ghost use Rattle.design_base.specs.declared.verdict.Verdict.TheVariants.{Yes};
-ghost use Rattle.derivations.specs.Spelled.{ArePrintable};
 ghost use Rattle.rule_table.specs.Closure.{closure};
 ghost use Rattle.rule_table.specs.Verdicts.{is_yes, verdict as verdict_of};
 
 use crate::tally::{Tally, tally_draws};
 use catalogues::{Catalogue, ConsultEnd, Consulted, consult};
-use derivations::{Derivation, derive, last_list};
+use derivations::{SoundDerivation, derive, replay_sound};
 use design_base::{Memory, Query, Step, Verdict};
 use design_checks::Checker;
-use incidence::Rows;
+use proved_designs::Design;
 use rule_table::{Asker, Marks, Steps, Tools, visit};
 use std::alloc::Global;
 use std::sync::ledger::Ledger;
 
-/// A derivation, and the blocks that it gives.
+/// A derivation, and the design that it leads to.
 #[derive(Drop)]
-pub struct Design {
-    pub derivation: Derivation,
-    pub blocks: Rows,
+pub struct Built {
+    pub derivation: SoundDerivation,
+    pub design: Design,
 }
 
 /// The table of rules, whoever answers its questions, marks on questions, the count of evaluations, and the checker of offers: made
@@ -106,12 +105,11 @@ impl<'a, A: Asker + Drop, L: Ledger> Oracle<'a, A, L> {
     }
 
     /// The derivation of a question in bounds whose verdict is yes by this step. The answer is `Memory` only for want of memory.
-    pub fn derivation(&mut self, query: &Query, step: &Step) -> Result<Derivation, Memory>
+    pub fn derivation(&mut self, query: &Query, step: &Step) -> Result<SoundDerivation, Memory>
         requires bounds { in_bounds query.now ≡ true }
         requires yes { verdict_of query.now ≡ Yes step.now }
         ensures lines { IfOk result (λ lines. lines ≡ derivation query.now) }
-        ensures sound { IfOk result IsSound }
-        ensures few { IfOk result ArePrintable }
+        ensures question { IfOk result (λ lines. last_question lines ≡ Some query.now) }
         ensures design { IfOk result (λ lines. Meets query.now (replayed lines)) }
     {
         derive(
@@ -124,18 +122,17 @@ impl<'a, A: Asker + Drop, L: Ledger> Oracle<'a, A, L> {
         )
     }
 
-    /// The same with the blocks that the derivation gives. It is not checked for faults again.
-    pub fn design(&mut self, query: &Query, step: &Step) -> Result<Design, Memory>
+    /// The same with the design that the derivation leads to. It is not searched for faults.
+    pub fn build(&mut self, query: &Query, step: &Step) -> Result<Built, Memory>
         requires bounds { in_bounds query.now ≡ true }
         requires yes { verdict_of query.now ≡ Yes step.now }
-        ensures derivation { IfOk result (λ design. design.derivation ≡ derivation query.now) }
-        ensures blocks { IfOk result (λ design. design.blocks ≡ replayed (derivation query.now)) }
-        ensures few { IfOk result (λ design. ArePrintable design.derivation) }
-        ensures design { IfOk result (λ design. Meets query.now design.blocks) }
+        ensures derivation { IfOk result (λ built. built.derivation ≡ derivation query.now) }
+        ensures question { IfOk result (λ built. built.design.query ≡ query.now) }
+        ensures blocks { IfOk result (λ built. built.design.blocks ≡ replayed (derivation query.now)) }
     {
         let derivation = self.derivation(query, step)?;
-        let blocks = last_list(self.alloc, derivation.as_slice())?;
-        Ok(Design { derivation, blocks })
+        let design = replay_sound(self.alloc, &derivation)?;
+        Ok(Built { derivation, design })
     }
 
     /// What the catalogues offer for a question in bounds, of which there are fewer than 4,294,967,296. They are asked as `consult` says, with its
@@ -147,8 +144,12 @@ impl<'a, A: Asker + Drop, L: Ledger> Oracle<'a, A, L> {
     ) -> Result<Consulted, ConsultEnd>
         requires bounds { in_bounds query.now ≡ true }
         requires few { length catalogues.old.items < 2 ^ 32 }
+        ensures asked { MatchResult result
+            (λ c. Consults query.now (map seen catalogues.old.items) (map seen catalogues.new.items) c.rejected c.valid)
+            (λ end. EndsConsult query.now (map seen catalogues.old.items) (map seen catalogues.new.items) end) }
         ensures told { IfOk result (λ c. IsConsulted query.now (map seen catalogues.old.items) (map seen catalogues.new.items) c.rejected c.valid) }
         ensures sound { IfOk result (λ c. AreSound query.now c.rejected c.valid) }
+        ensures ends { IfOk result (λ c. EndsAtValid (map seen catalogues.old.items) (map seen catalogues.new.items) c.valid) }
         ensures left { AreLeft (map seen catalogues.old.items) (map seen catalogues.new.items) }
         ensures cause { IfErr result (λ end. HasEnded (map seen catalogues.old.items) (map seen catalogues.new.items) end) }
     {

@@ -1,6 +1,6 @@
 -- How a batch ends.
 use Rattle.std.proofs.Common.{◌≡◌, ◌≢◌, ℕ, ◌+◌, ◌-◌, Bool, true, false, cond, List, [], ◌∷◌, ◌++◌, Option, Some, None, Ok, Err, IfSome, refl, ap, sym, ◌∙◌, subst, append-nil, append_assoc, arith}
-use Rattle.std.specs.Prelude.{drop, if◌then◌else◌, get_or}
+use Rattle.std.specs.Prelude.{drop, if◌then◌else◌, get_or, length, take}
 use Rattle.std.specs.List.{flat_map}
 use Rattle.std.proofs.Math.Seq.{drop-append_seam, get_or-append_seam}
 use Rattle.std.proofs.lemmas.List.{get_or-append-add}
@@ -13,7 +13,9 @@ use Rattle.catalogues.proofs.Held.{held_told, some_held}
 use Rattle.catalogues.specs.Consulted.{AreHeld, AreTold}
 use Rattle.catalogues.specs.Entries.{Seen}
 use Rattle.catalogues.specs.declared.catalogue.Entry.{Entry}
-use Rattle.design_answers.specs.Answered.{HasOfferFault}
+use Rattle.catalogues.proofs.Left.{left_refl, left_trans}
+use Rattle.catalogues.specs.Left.{AreLeft}
+use Rattle.design_answers.specs.Answered.{AsksBy, LeavesTold}
 use Rattle.design_answers.specs.Requests.{IsRefused}
 use Rattle.design_base.specs.declared.limits.TheConstants.{INPUT_MAX}
 use Rattle.design_io.proofs.LinesInFront.{long_text}
@@ -30,11 +32,11 @@ use Rattle.design_reports.specs.Reports.{Report, silent}
 use Rattle.design_reports.specs.declared.ending.Ending.{Ending}
 use Rattle.design_reports.specs.declared.ending.Ending.TheVariants.{Yes, BadInput, ReadFault, CatalogueFault, NoMemory, WriteFault}
 use Rattle.design_reports.specs.declared.status.Status.TheVariants.{Usage}
-use Rattle.design_cli.proofs.Batches.{AreAnswered, IsAnswered, IsFirst, IsGiven, IsRead, bad_first, behind, given_fits, handed_behind, handed_first, one_more, with_line}
+use Rattle.design_cli.proofs.Batches.{AreAnswered, IsAnswered, IsFirst, asks_front, IsGiven, IsRead, bad_first, behind, given_fits, handed_behind, handed_first, one_more, with_line}
 use Rattle.design_cli.proofs.Endings.{some_input}
-use Rattle.design_cli.specs.Batches.{AnswersLine, AppendsFirst, batch_from, batch_report, handed_on, in_front, line_answer, line_asks, lists_behind}
+use Rattle.design_cli.specs.Batches.{AnswersLine, AppendsFirst, AsksEach, batch_from, batch_report, handed_on, in_front, line_answer, line_asks, lists_behind}
 use Rattle.design_cli.specs.Report.{asks_offers, first_asks}
-use Rattle.design_cli.specs.Runs.{Answers, BreaksOn, HasLineFault, IsCount, LeavesEntries, Stands}
+use Rattle.design_cli.specs.Runs.{Answers, AsksLines, IsCount, Stands, begun_lines, next_asked, stops}
 use Rattle.design_cli.specs.declared.batching.Stop.TheVariants.{Catalogue, Memory, Write}
 
 -- bytes behind those that were taken, so that both are the input where it is told
@@ -101,15 +103,35 @@ module _ (reader : LinesRead) (lines : List InputLine) (old mid : List Seen) (do
   first_stand : (from now : Option (List ℕ)) → Appends from now (flat_map (λ answer. answer) done.answers) → AppendsFirst reader.lines from now (batch_report text all_lists).lines
   first_stand from now appended = rw (← done.count, ap (λ (r : Report). r.lines) report_is, take-append_seam done.answers) appended
 
+  -- how the catalogues were asked for the lines
+  asked_before : (ending : Ending) (new : List Seen) (count : ℕ) → length lines ≡ reader.lines → count ≡ begun_lines ending reader.lines → AsksBy ending (if stops ending then next_asked rest entries else None) mid new
+      → AsksLines (lines_of text) all_lists ending count old new
+  asked_before ending new count size counts last = record {
+    answered = reader.lines;
+    counts = counts;
+    between = mid;
+    each = subst (λ ls. AsksEach ls all_lists old mid) (sym front) (asks_front lines done.lists (handed_on entries rest) old mid done.size done.asked);
+    last = rw (behind_lines, list_here) last;
+  }
+    where
+      front : take reader.lines (lines_of text) ≡ lines
+      front = ap (take reader.lines) is ∙ ap (λ n. take n (lines ++ rest)) (sym size) ∙ take-append_seam lines rest
+
+      behind_lines : drop reader.lines (lines_of text) ≡ rest
+      behind_lines = ap (drop reader.lines) is ∙ ap (λ n. drop n (lines ++ rest)) (sym size) ∙ drop-append_seam lines rest
+
   -- the answer to a batch that ends before these other lines
   ends_before : (left after : Option (List ℕ)) (ending : Ending) (new : List Seen) (from now : Option (List ℕ)) → IsInput left text
       → EndsCut (Stands (Ok Batch) reader.lines (batch_report text all_lists)) (batch_report text all_lists) ending from now
       → IsCount (Ok Batch) text after (batch_report text all_lists) ending reader.lines
-      → (AreTold mid entries → LeavesEntries ending new entries)
+      → (AreTold mid entries → LeavesTold ending new entries)
       → status_of ending ≢ Usage
-      → ((number : ℕ) → ending ≡ CatalogueFault number → HasLineFault (asks_offers (Ok Batch) text reader.lines) old new number)
-      → Answers (Ok Batch) left after old new ending from now
-  ends_before left after ending new from now is_input ends is_count leaves answered failed = record {
+      → ending ≢ WriteFault
+      → AsksLines (lines_of text) all_lists ending reader.lines old new
+      → ((number : ℕ) → ending ≡ CatalogueFault number → asks_offers (Ok Batch) text reader.lines ≡ true)
+      → AreLeft mid new
+      → Answers true (Ok Batch) left after old new ending from now
+  ends_before left after ending new from now is_input ends is_count leaves answered whole asked failed are_left = record {
     text = text;
     is_input = is_input;
     lists = all_lists;
@@ -118,9 +140,14 @@ module _ (reader : LinesRead) (lines : List InputLine) (old mid : List Seen) (do
     count = reader.lines;
     ends = ends;
     is_count = is_count;
-    leaves = λ told are_told. subst (LeavesEntries ending new) (sym list_here) (leaves (now_told told are_told));
     usage = (λ e. absurd (answered e), λ e. absurd (batch_answers text all_lists e));
+    ended = ending;
+    is_ended = λ other. refl;
+    breaks = λ direct. (refl, λ broken. absurd (whole broken));
+    leaves = λ told are_told. subst (LeavesTold ending new) (sym list_here) (leaves (now_told told are_told));
+    asked = asked;
     failed = failed;
+    are_left = left_trans old mid new done.left are_left;
   }
 
 module _ (left rest after : Option (List ℕ)) (reader new : LinesRead) (old mid : List Seen) (from written : Option (List ℕ)) (done : IsAnswered left reader rest old mid from written) where
@@ -131,7 +158,7 @@ module _ (left rest after : Option (List ℕ)) (reader new : LinesRead) (old mid
   held = (some_held mid).1
 
   -- no line is left
-  pub ends_whole : (kept : Option (List ℕ)) → IfSome rest (λ bytes. GivesFrom reader new bytes after (Ok false)) → Answers (Ok Batch) left kept old mid Yes from written
+  pub ends_whole : (kept : Option (List ℕ)) → IfSome rest (λ bytes. GivesFrom reader new bytes after (Ok false)) → Answers true (Ok Batch) left kept old mid Yes from written
   unfolding batch_from lines_of
   ends_whole kept gives =
       let more = continued left rest done.read.given (λ more. more ≡ []) [] refl done.read.taken (none_left left rest after done.read.taken done.read.last gives) in
@@ -141,7 +168,7 @@ module _ (left rest after : Option (List ℕ)) (reader new : LinesRead) (old mid
       ends_before reader done.lines old mid done.answered text [] is entries held left kept Yes mid from written more.is_input
       (rw report (refl, rw (append-nil done.answered.answers) done.appended))
       (rw report (rw (append-nil done.answered.answers) (sym done.answered.count)))
-      (λ told. told) (λ e. cc) (λ number e. cc)
+      (λ told. told) (λ e. cc) (λ e. cc) (asked_before reader done.lines old mid done.answered text [] is entries held Yes mid reader.lines done.read.count refl refl) (λ number e. cc) (left_refl mid)
     where
       none_left : (left rest after : Option (List ℕ)) → Consumes left rest done.read.given → (reader.is_over ≡ true → IfSome left (λ text. IsInput rest [])) → IfSome rest (λ bytes. GivesFrom reader new bytes after (Ok false))
           → IfSome left (λ text. IfSome rest (λ bytes. bytes ≡ []))
@@ -155,7 +182,7 @@ module _ (left rest after : Option (List ℕ)) (reader new : LinesRead) (old mid
           of false e = gives.0 e
 
   -- the next line is too long
-  pub ends_bad : (kept : Option (List ℕ)) (line : ℕ) → reader.is_over ≢ true → IfSome rest (λ bytes. GivesFrom reader new bytes after (Err (TooLong line))) → line ≡ reader.lines + 1 → Answers (Ok Batch) left kept old mid (BadInput line) from written
+  pub ends_bad : (kept : Option (List ℕ)) (line : ℕ) → reader.is_over ≢ true → IfSome rest (λ bytes. GivesFrom reader new bytes after (Err (TooLong line))) → line ≡ reader.lines + 1 → Answers true (Ok Batch) left kept old mid (BadInput line) from written
   ends_bad kept line begun gives place =
       let long = long_text reader.room in
       let more = continued left rest done.read.given (λ more. first_line reader.room (lines_of more) ≡ too_long) long.0 long.1 done.read.taken (long_left left rest after done.read.taken gives) in
@@ -166,7 +193,7 @@ module _ (left rest after : Option (List ℕ)) (reader new : LinesRead) (old mid
       ends_before reader done.lines old mid done.answered text (lines_of more.more) is entries held left kept (BadInput line) mid from written more.is_input
       (rw report (ap BadInput place, rw (append-nil done.answered.answers) done.appended))
       (rw report (rw (append-nil done.answered.answers) (sym done.answered.count)))
-      (λ told. told) (λ e. cc) (λ number e. cc)
+      (λ told. told) (λ e. cc) (λ e. cc) (asked_before reader done.lines old mid done.answered text (lines_of more.more) is entries held (BadInput line) mid reader.lines done.read.count refl refl) (λ number e. cc) (left_refl mid)
     where
       long_left : (left rest after : Option (List ℕ)) → Consumes left rest done.read.given → IfSome rest (λ bytes. GivesFrom reader new bytes after (Err (TooLong line))) → IfSome left (λ text. IfSome rest (λ bytes. first_line reader.room (lines_of bytes) ≡ too_long))
       long_left None rest after taken gives = tt
@@ -176,7 +203,7 @@ module _ (left rest after : Option (List ℕ)) (reader new : LinesRead) (old mid
 
   -- a read failed, and what the reader holds is no whole line
   pub ends_failed : (source : Option (List ℕ)) → after ≡ prepend_known new.held source → reader.is_over ≢ true → IfSome rest (λ bytes. GivesFrom reader new bytes after (Err Failed)) → feeds_in new.held ≡ 0
-      → Answers (Ok Batch) left source old mid ReadFault from written
+      → Answers true (Ok Batch) left source old mid ReadFault from written
   ends_failed source is_after begun gives none =
       let some = some_input source in
       let more = continued left rest done.read.given (λ more. (bytes : List ℕ) × ((more ≡ new.held ++ bytes) × IsInput source bytes)) (new.held ++ some.0) (some.0, (refl, some.1)) done.read.taken
@@ -193,7 +220,7 @@ module _ (left rest after : Option (List ℕ)) (reader new : LinesRead) (old mid
         is_left = more.is_more.1.1;
         lines = omega (arith, size, none, done.read.feeds (not_over begun));
       })
-      (λ told. told) (λ e. cc) (λ number e. cc)
+      (λ told. told) (λ e. cc) (λ e. cc) (asked_before reader done.lines old mid done.answered text (lines_of more.more) is entries held ReadFault mid reader.lines done.read.count refl refl) (λ number e. cc) (left_refl mid)
     where
       held_left : (left rest source : Option (List ℕ)) → Consumes left rest done.read.given → IfSome rest (λ bytes. GivesFrom reader new bytes (prepend_known new.held source) (Err Failed))
           → IfSome left (λ text. IfSome rest (λ more. (bytes : List ℕ) × ((more ≡ new.held ++ bytes) × IsInput source bytes)))
@@ -237,28 +264,21 @@ module _ (left rest after : Option (List ℕ)) (reader new : LinesRead) (old mid
         ap first_asks (ap (drop reader.lines) in_text ∙ ap (λ n. drop n (done.lines ++ new.last ∷ behind_it)) (sym done.read.count) ∙ drop-append_seam done.lines (new.last ∷ behind_it)) ∙ asks
 
     -- there is no memory for its answer
-    pub ends_short : (kept : Option (List ℕ)) → AnswersLine (content_of new.last) mid now (Err Memory) written written' → Answers (Ok Batch) left kept old now NoMemory from written'
-    ends_short kept line =
+    pub ends_short : (kept : Option (List ℕ)) → AnswersLine (content_of new.last) mid now (Err Memory) written written' → AreLeft mid now → Answers true (Ok Batch) left kept old now NoMemory from written'
+    ends_short kept line are_left =
         let appended = Appends-kept from written written' (flat_map (λ answer. answer) done.answered.answers) done.appended line.ends in
         ends_before reader done.lines old mid done.answered text (new.last ∷ behind_it) in_text line.lists line.are_held left kept NoMemory now from written' continues.is_input
-        (first_stand reader done.lines old mid done.answered text (new.last ∷ behind_it) in_text line.lists line.are_held from written' appended) tt (λ told. tt) (λ e. cc) (λ number e. cc)
+        (first_stand reader done.lines old mid done.answered text (new.last ∷ behind_it) in_text line.lists line.are_held from written' appended) tt (λ told. tt) (λ e. cc) (λ e. cc)
+        (asked_before reader done.lines old mid done.answered text (new.last ∷ behind_it) in_text line.lists line.are_held NoMemory now reader.lines done.read.count refl line.asked) (λ number e. cc) are_left
 
     -- an offer for it failed
-    pub ends_refused : (kept : Option (List ℕ)) (number : ℕ) → AnswersLine (content_of new.last) mid now (Err (Catalogue number)) written written' → HasOfferFault (line_asks (parse_in_batch (content_of new.last))) mid now number
-        → Answers (Ok Batch) left kept old now (CatalogueFault number) from written'
-    ends_refused kept number line fault =
+    pub ends_refused : (kept : Option (List ℕ)) (number : ℕ) → AnswersLine (content_of new.last) mid now (Err (Catalogue number)) written written' → line_asks (parse_in_batch (content_of new.last)) ≡ true → AreLeft mid now
+        → Answers true (Ok Batch) left kept old now (CatalogueFault number) from written'
+    ends_refused kept number line asks are_left =
         let appended = Appends-kept from written written' (flat_map (λ answer. answer) done.answered.answers) done.appended line.ends in
         ends_before reader done.lines old mid done.answered text (new.last ∷ behind_it) in_text line.lists line.are_held left kept (CatalogueFault number) now from written' continues.is_input
-        (first_stand reader done.lines old mid done.answered text (new.last ∷ behind_it) in_text line.lists line.are_held from written' appended) tt (λ told. tt) (λ e. cc)
-        (λ other e. subst (HasLineFault (asks_offers (Ok Batch) text reader.lines) old now) (same e) (record {
-          asked = line_in_text fault.asked;
-          before = mid;
-          left = done.answered.left;
-          failed = fault.failed;
-        }))
-      where
-        same : {other : ℕ} → CatalogueFault number ≡ CatalogueFault other → number ≡ other
-        same e = cc
+        (first_stand reader done.lines old mid done.answered text (new.last ∷ behind_it) in_text line.lists line.are_held from written' appended) tt (λ told. tt) (λ e. cc) (λ e. cc)
+        (asked_before reader done.lines old mid done.answered text (new.last ∷ behind_it) in_text line.lists line.are_held (CatalogueFault number) now reader.lines done.read.count refl line.asked) (λ other e. line_in_text asks) are_left
 
     -- the output fails at it
     module _ (line : AnswersLine (content_of new.last) mid now (Err Write) written written') where
@@ -292,8 +312,8 @@ module _ (left rest after : Option (List ℕ)) (reader new : LinesRead) (old mid
           ∙ ap (λ n. get_or (done.answered.answers ++ answer ∷ later.lines) n []) (sym done.answered.count)
           ∙ get_or-append_seam done.answered.answers answer later.lines []
 
-      pub ends_broken : (kept : Option (List ℕ)) → Answers (Ok Batch) left kept old now WriteFault from written'
-      ends_broken kept = record {
+      pub ends_broken : (kept : Option (List ℕ)) → AreLeft mid now → Answers true (Ok Batch) left kept old now WriteFault from written'
+      ends_broken kept are_left = record {
         text = text;
         is_input = continues.is_input;
         lists = lists;
@@ -302,25 +322,18 @@ module _ (left rest after : Option (List ℕ)) (reader new : LinesRead) (old mid
         count = reader.lines + 1;
         ends = rw (report, flat_map-append (λ b. b) done.answered.answers (answer ∷ later.lines)) (AppendsPart-second from (flat_map (λ b. b) done.answered.answers) done.appended (AppendsPart-first (flat_map (λ b. b) later.lines) line.ends));
         is_count = tt;
-        leaves = λ told are_told. tt;
         usage = (λ e. cc, λ e. absurd (batch_answers text lists e));
-        failed = λ number e. cc;
-      }
-
-      pub breaks_at : BreaksOn (Ok Batch) left old now from written'
-      breaks_at = record {
-        text = text;
-        is_input = continues.is_input;
-        lists = lists;
-        are_held = all_held reader done.lines old mid done.answered text (new.last ∷ behind_it) in_text line.lists line.are_held;
-        are_told = all_told reader done.lines old mid done.answered text (new.last ∷ behind_it) in_text line.lists line.are_held;
-        count = reader.lines + 1;
-        breaks = record {
+        ended = WriteFault;
+        is_ended = λ other. refl;
+        breaks = λ direct. (refl, λ broken. record {
           before = reader.lines;
           next = refl;
           whole = written;
           first = first_stand reader done.lines old mid done.answered text (new.last ∷ behind_it) in_text line.lists line.are_held from written done.appended;
           part = subst (AppendsPart written written') (sym answer_here) line.ends;
-        };
+        });
         leaves = λ told are_told. subst (AreTold now) (sym behind_line) (line.leaves (now_told reader done.lines old mid done.answered text (new.last ∷ behind_it) in_text line.lists line.are_held told are_told));
+        asked = asked_before reader done.lines old mid done.answered text (new.last ∷ behind_it) in_text line.lists line.are_held WriteFault now (reader.lines + 1) done.read.count refl line.asked;
+        failed = λ number e. cc;
+        are_left = left_trans old mid now done.answered.left are_left;
       }

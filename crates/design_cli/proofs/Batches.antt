@@ -1,5 +1,5 @@
 -- The lines of a batch and the answers to them, one after another.
-use Rattle.std.proofs.Common.{◌≡◌, ◌≢◌, ℕ, ◌+◌, ◌-◌, ◌^◌, ◌<◌, ◌≤◌, Bool, true, false, cond, List, [], ◌∷◌, ◌++◌, length, Option, Some, None, Result, Ok, Err, IfSome, refl, ap, sym, ◌∙◌, subst, append-nil, append_assoc, length-append, map, arith}
+use Rattle.std.proofs.Common.{◌≡◌, ◌≢◌, ◌⊎◌, inl, inr, ℕ, ◌+◌, ◌-◌, ◌^◌, ◌<◌, ◌≤◌, Bool, true, false, cond, List, [], ◌∷◌, ◌++◌, length, Option, Some, None, Result, Ok, Err, IfSome, refl, ap, sym, ◌∙◌, subst, append-nil, append_assoc, length-append, map, arith}
 use Rattle.std.specs.Prelude.{if◌then◌else◌, get_or}
 use Rattle.std.specs.List.{flat_map}
 use Rattle.std.proofs.lemmas.List.{length-map}
@@ -13,8 +13,8 @@ use Rattle.catalogues.specs.Consulted.{AreHeld, AreTold}
 use Rattle.catalogues.specs.Entries.{Seen}
 use Rattle.catalogues.specs.Left.{AreLeft}
 use Rattle.catalogues.specs.declared.catalogue.Entry.{Entry}
-use Rattle.design_answers.specs.Answered.{AnswersOn, HasOfferFault, LeavesTold}
-use Rattle.design_answers.specs.Requests.{asks_catalogues, lists_after, request_report}
+use Rattle.design_answers.specs.Answered.{AnswersOn, AsksBy, LeavesTold}
+use Rattle.design_answers.specs.Requests.{asked_for, asks_catalogues, lists_after, request_report}
 use Rattle.design_base.specs.declared.limits.TheConstants.{INPUT_MAX, LINE_MAX}
 use Rattle.design_io.proofs.LinesInFront.{line_in_front}
 use Rattle.design_io.proofs.LinesOfText.{does_fit}
@@ -31,7 +31,7 @@ use Rattle.design_reports.specs.Endings.{message_of}
 use Rattle.design_reports.specs.Reports.{Report, output, silent}
 use Rattle.design_reports.specs.declared.ending.Ending.{Ending}
 use Rattle.design_reports.specs.declared.ending.Ending.TheVariants.{Yes, No, Unknown, Refused, NotBuilt, BadInput, ReadFault, CatalogueFault, NoMemory, WriteFault}
-use Rattle.design_cli.specs.Batches.{AnswersLine, EndsLine, LeavesLine, batch_from, handed_on, in_front, left_after, line_answer, line_asks, line_report, lists_behind, written}
+use Rattle.design_cli.specs.Batches.{AnswersLine, AsksEach, EndsLine, LeavesLine, asked_by_line, batch_from, ending_at, handed_on, in_front, left_after, line_answer, line_asked, line_asks, line_report, lists_behind, written}
 use Rattle.design_cli.specs.declared.batching.Stop.{Stop}
 
 -- The answer to a line.
@@ -120,6 +120,26 @@ pub record HandsOn (told : List (List Entry)) (lines : List InputLine) (lists : 
   pub are_told : AreTold now entries
   pub on : (rest : List InputLine) → handed_on told (lines ++ rest) ≡ lists ++ handed_on entries rest
 
+-- how the catalogues are asked for some lines, whatever they hold behind them
+pub asks_front : (lines : List InputLine) (lists more : List (List (List Entry))) (old new : List Seen) → length lists ≡ length lines → AsksEach lines lists old new → AsksEach lines (lists ++ more) old new
+unfolding AsksEach
+asks_front [] lists more old new size each = each
+asks_front (l ∷ lines) [] more old new size each = cc
+asks_front (l ∷ lines) (entries ∷ lists) more old new size each = (each.0, each.1, asks_front lines lists more each.0 new (omega (arith, size)) each.2)
+
+-- and for one more
+asks_more : (lines : List InputLine) (lists : List (List (List Entry))) (l : InputLine) (entries : List (List Entry)) (old mid new : List Seen) → length lists ≡ length lines → AsksEach lines lists old mid → AsksBy Yes (line_asked (content_of l) entries) mid new
+    → AsksEach (lines ++ l ∷ []) (lists ++ entries ∷ []) old new
+unfolding AsksEach
+asks_more [] [] l entries old mid new size each last = (new, subst (λ s. AsksBy Yes (line_asked (content_of l) entries) s new) each last, refl)
+asks_more [] (others ∷ lists) l entries old mid new size each last = cc
+asks_more (l' ∷ lines) [] l entries old mid new size each last = cc
+asks_more (l' ∷ lines) (others ∷ lists) l entries old mid new size each last = (each.0, each.1, asks_more lines lists l entries each.0 mid new (omega (arith, size)) each.2 last)
+
+pub none_asked : (lists : List (List (List Entry))) (old : List Seen) → AsksEach [] lists old old
+unfolding AsksEach
+none_asked lists old = refl
+
 -- The lines were answered, each on what the catalogues held before it.
 pub record AreAnswered (reader : LinesRead) (lines : List InputLine) (old now : List Seen) : Type 0 where
   pub lists : List (List (List Entry))
@@ -129,6 +149,8 @@ pub record AreAnswered (reader : LinesRead) (lines : List InputLine) (old now : 
   pub count : length answers ≡ reader.lines
   pub first : IsFirst old now lists
   pub handed : (told : List (List Entry)) → AreTold old told → HandsOn told lines lists now
+  pub size : length lists ≡ length lines
+  pub asked : AsksEach lines lists old now
   pub left : AreLeft old now
 
 -- and the answers were written
@@ -150,6 +172,8 @@ none_answered left old held = record {
     count = refl;
     first = refl;
     handed = λ told are_told. record { entries = told; are_told = are_told; on = λ rest. refl };
+    size = refl;
+    asked = none_asked [] old;
     left = left_refl old;
   };
   appended = Appends-nil held;
@@ -234,6 +258,8 @@ module _ (reader new : LinesRead) (lines : List InputLine) (old mid : List Seen)
     count = let size = length-append done.answers (answer ∷ []) in omega (arith, size, done.count, place);
     first = first_more old mid now done.lists line.lists done.first line.are_held;
     handed = handed;
+    size = let lists = length-append done.lists (line.lists ∷ []) in let all = length-append lines (new.last ∷ []) in omega (arith, lists, all, done.size);
+    asked = asks_more lines done.lists new.last line.lists old mid now done.size done.asked line.asked;
     left = left_trans old mid now done.left left;
   }
     where
@@ -322,6 +348,10 @@ pub behind_is : (line : List ℕ) (read : Result (Option Request) Reason) (lists
 unfolding lists_behind
 behind_is line read lists is = ap (λ r. left_after r lists) (sym is)
 
+asked_is : (line : List ℕ) (read : Result (Option Request) Reason) (lists : List (List Entry)) → read ≡ parse_in_batch line → asked_by_line read lists ≡ line_asked line lists
+unfolding line_asked
+asked_is line read lists is = ap (λ r. asked_by_line r lists) is
+
 -- a line without a word
 pub blank_is : (line : List ℕ) (lists : List (List Entry)) → Ok None ≡ parse_in_batch line → line_answer lists line ≡ []
 unfolding message_of
@@ -340,31 +370,63 @@ told_whole (CatalogueFault number) new entries m o told = absurd (o number refl)
 told_whole NoMemory new entries m o told = absurd (m refl)
 told_whole WriteFault new entries m o told = told
 
+-- how catalogues were asked, by an answer that was not cut: so many of them, or none
+pub asked_whole : (ending other : Ending) (asks : Option ℕ) (old new : List Seen) → ending ≢ NoMemory → ((number : ℕ) → ending ≢ CatalogueFault number) → (other ≡ Yes) ⊎ (other ≡ WriteFault) → AsksBy ending asks old new → AsksBy other asks old new
+asked_whole ending other asks old new m o which asked = elim which [
+  | inl is ↦ subst (λ e. AsksBy e asks old new) (sym is) (all ending asks m o asked)
+  | inr is ↦ subst (λ e. AsksBy e asks old new) (sym is) (broken asks (all ending asks m o asked))
+]
+  where
+    broken : (asks : Option ℕ) → AsksBy Yes asks old new → AsksBy WriteFault asks old new
+    broken None asked = asked
+    broken (Some n) asked = asked
+
+    all : (ending : Ending) (asks : Option ℕ) → ending ≢ NoMemory → ((number : ℕ) → ending ≢ CatalogueFault number) → AsksBy ending asks old new → AsksBy Yes asks old new
+    all NoMemory asks m o asked = absurd (m refl)
+    all (CatalogueFault number) asks m o asked = absurd (o number refl)
+    all Yes asks m o asked = asked
+    all No None m o asked = asked
+    all No (Some n) m o asked = asked
+    all Unknown None m o asked = asked
+    all Unknown (Some n) m o asked = asked
+    all (Refused reason) None m o asked = asked
+    all (Refused reason) (Some n) m o asked = asked
+    all NotBuilt None m o asked = asked
+    all NotBuilt (Some n) m o asked = asked
+    all (BadInput line) None m o asked = asked
+    all (BadInput line) (Some n) m o asked = asked
+    all ReadFault None m o asked = asked
+    all ReadFault (Some n) m o asked = asked
+    all WriteFault None m o asked = asked
+    all WriteFault (Some n) m o asked = asked
+
 -- How a line is answered, by what was read of it.
 
 -- a line that is refused
 pub refused_line : (line : List ℕ) (reason : Reason) (seen : List Seen) (result : Result (Unit {0}) Stop) (held now : Option (List ℕ)) → Err reason ≡ parse_in_batch line → EndsLine (written (silent (Refused reason))) result held now
-    → ((entries : List (List Entry)) → AreTold seen entries → LeavesLine result seen entries) → AnswersLine line seen seen result held now
-refused_line line reason seen result held now is ends leaves =
+    → ((entries : List (List Entry)) → AreTold seen entries → LeavesLine result seen entries) → AsksBy (ending_at result) None seen seen → AnswersLine line seen seen result held now
+refused_line line reason seen result held now is ends leaves asked =
     let some = some_held seen in
-    record { lists = some.0; are_held = some.1; ends = rw (answer_is line (Err reason) some.0 is) ends; leaves = λ told. rw (behind_is line (Err reason) some.0 is) (leaves some.0 told) }
+    record { lists = some.0; are_held = some.1; ends = rw (answer_is line (Err reason) some.0 is) ends; leaves = λ told. rw (behind_is line (Err reason) some.0 is) (leaves some.0 told); asked = subst (λ asks. AsksBy (ending_at result) asks seen seen) (asked_is line (Err reason) some.0 is) asked }
 
 pub blank_line : (line : List ℕ) (seen : List Seen) (held : Option (List ℕ)) → Ok None ≡ parse_in_batch line → AnswersLine line seen seen (Ok tt) held held
 blank_line line seen held is =
     let some = some_held seen in
-    record { lists = some.0; are_held = some.1; ends = rw (blank_is line some.0 is) (Appends-nil held); leaves = λ told. rw (behind_is line (Ok None) some.0 is) told }
+    record { lists = some.0; are_held = some.1; ends = rw (blank_is line some.0 is) (Appends-nil held); leaves = λ told. rw (behind_is line (Ok None) some.0 is) told; asked = subst (λ asks. AsksBy Yes asks seen seen) (asked_is line (Ok None) some.0 is) refl }
 
 -- a request
 module _ (line : List ℕ) (request : Request) (is : Ok (Some request) ≡ parse_in_batch line) (old new : List Seen) where
-  pub request_line : (ending : Ending) (result : Result (Unit {0}) Stop) (held mid now : Option (List ℕ)) → AnswersOn old new (request_report request) (lists_after request) ending held mid
+  pub request_line : (ending : Ending) (result : Result (Unit {0}) Stop) (held mid now : Option (List ℕ)) → AnswersOn old new (request_report request) (lists_after request) (asked_for request) ending held mid
       → ((report : Report) (before : Option (List ℕ)) → EndsWith report ending before mid → EndsLine (written report) result before now) → ((seen : List Seen) (entries : List (List Entry)) → LeavesTold ending seen entries → LeavesLine result seen entries)
-      → AnswersLine line old new result held now
-  request_line ending result held mid now on ends leaves = record {
+      → ((asks : Option ℕ) (old new : List Seen) → AsksBy ending asks old new → AsksBy (ending_at result) asks old new) → AnswersLine line old new result held now
+  request_line ending result held mid now on ends leaves asked = record {
     lists = on.lists;
     are_held = on.are_held;
     ends = rw (answer_is line (Ok (Some request)) on.lists is) (ends (request_report request on.lists) held on.ends);
     leaves = λ told. rw (behind_is line (Ok (Some request)) on.lists is) (leaves new (lists_after request on.lists) (on.leaves told));
+    asked = subst (λ asks. AsksBy (ending_at result) asks old new) (asked_is line (Ok (Some request)) on.lists is) (asked (asked_for request on.lists) old new on.asked);
   }
 
-  pub request_fault : (number : ℕ) → HasOfferFault (asks_catalogues request) old new number → HasOfferFault (line_asks (parse_in_batch line)) old new number
-  request_fault number fault = subst (λ read. HasOfferFault (line_asks read) old new number) is fault
+-- it asks catalogues where its line does
+pub request_asks : (line : List ℕ) (request : Request) → Ok (Some request) ≡ parse_in_batch line → asks_catalogues request ≡ true → line_asks (parse_in_batch line) ≡ true
+request_asks line request is asks = subst (λ read. line_asks read ≡ true) is asks

@@ -1,5 +1,5 @@
 -- How an answer ends that reads the input, and how a run ends.
-use Rattle.std.proofs.Common.{◌≡◌, ◌≢◌, ℕ, ◌≤◌, Bool, List, [], Option, Some, None, true, false, length, refl, arith}
+use Rattle.std.proofs.Common.{◌≡◌, ◌≢◌, ℕ, ◌≤◌, Bool, List, [], Option, Some, None, Err, true, false, length, refl, arith}
 use Rattle.std.specs.Prelude.{if◌then◌else◌, nat_le}
 use Rattle.design_base.specs.declared.limits.TheConstants.{INPUT_MAX}
 use Rattle.design_base.specs.declared.query.Query.{Query}
@@ -9,7 +9,7 @@ use Rattle.block_texts.specs.BlockText.{BlockText, bad_line, block_text, blocks}
 use Rattle.design_cli.specs.LineFindings.{lines_finding}
 use Rattle.design_cli.specs.Report.{check_report, text_report}
 use Rattle.design_io.specs.Faults.{Rose}
-use Rattle.design_io.specs.Inputs.{IsInput, line_at}
+use Rattle.design_io.specs.Inputs.{IsInput, faults_after, line_at}
 use Rattle.design_io.specs.declared.reading.ReadEnd.{ReadEnd}
 use Rattle.design_io.specs.declared.reading.ReadEnd.TheVariants.{Failed, TooLong, Memory}
 use Rattle.design_lines.specs.declared.command.Shape.{Shape}
@@ -35,17 +35,22 @@ unread_offers (TooLong line) number e = cc
 unread_offers Memory number e = cc
 
 pub unread_writes : (end : ReadEnd) (faults : ℕ) → HasFault (ending_at end) faults faults
-unread_writes Failed faults = record { later = omega arith; failed = λ e. cc }
-unread_writes (TooLong line) faults = record { later = omega arith; failed = λ e. cc }
-unread_writes Memory faults = record { later = omega arith; failed = λ e. cc }
+unread_writes Failed faults = record { later = omega arith; failed = λ e. cc; kept = λ e. refl }
+unread_writes (TooLong line) faults = record { later = omega arith; failed = λ e. cc; kept = λ e. refl }
+unread_writes Memory faults = record { later = omega arith; failed = λ e. cc; kept = λ e. refl }
 
 unread_cause : (end : ReadEnd) → ending_at end ≡ ReadFault → end ≡ Failed
 unread_cause Failed e = refl
 unread_cause (TooLong line) e = cc
 unread_cause Memory e = cc
 
-pub unread_reads : (end : ReadEnd) (before now : ℕ) → (end ≡ Failed → Rose before now) → before ≤ now → HasReadFault (ending_at end) before now
-unread_reads end before now rose later = record { later = later; failed = λ e. rose (unread_cause end e) }
+pub unread_reads : (end : ReadEnd) (before now : ℕ) → (end ≡ Failed → Rose before now) → before ≤ now → now ≡ faults_after {Z = ℕ} before (Err end) → HasReadFault (ending_at end) before now
+unread_reads end before now rose later is = record { later = later; failed = λ e. rose (unread_cause end e); kept = of end is }
+  where
+    of : (end : ReadEnd) → now ≡ faults_after {Z = ℕ} before (Err end) → ending_at end ≢ ReadFault → now ≡ before
+    of Failed is other = absurd (other refl)
+    of (TooLong line) is other = is
+    of Memory is other = is
 
 -- a check is never refused
 found_answers : (q : Query) (found : Finding) → status_of (found_report q found).ending ≢ Usage

@@ -104,8 +104,8 @@ no_part a b bs part is = absurd (omega (arith, part.short, ap length is))
 
 -- the answer ends on the output as it did on the buffer, or by the flush that failed
 flushed_from : (command : Result Command Reason) (left after : Option (List ℕ)) (old new : List Seen) (ending end : Ending) (a b : Option (List ℕ)) (handed : List ℕ) (r : Result (Unit {0}) Failed)
-    → Answers command left after old new ending (Some []) (Some handed) → AppendsWhole a b r handed → OnOk r (end ≡ ending) → OnErr r (end ≡ WriteFault) → Answers command left after old new end a b
-flushed_from command left after old new ending end a b handed (Ok x) ends on kept failed = subst (λ e. Answers command left after old new e a b) (sym kept) (record {
+    → Answers true command left after old new ending (Some []) (Some handed) → AppendsWhole a b r handed → OnOk r (end ≡ ending) → OnErr r (end ≡ WriteFault) → Answers false command left after old new end a b
+flushed_from command left after old new ending end a b handed (Ok x) ends on kept failed = subst (λ e. Answers false command left after old new e a b) (sym kept) (record {
   text = ends.text;
   is_input = ends.is_input;
   lists = ends.lists;
@@ -114,14 +114,19 @@ flushed_from command left after old new ending end a b handed (Ok x) ends on kep
   count = ends.count;
   ends = moved_ends a b handed on command ends.count (command_report command ends.text ends.lists) ending ends.ends;
   is_count = ends.is_count;
-  leaves = ends.leaves;
   usage = ends.usage;
+  ended = ends.ended;
+  is_ended = ends.is_ended;
+  breaks = λ direct. cc;
+  leaves = ends.leaves;
+  asked = ends.asked;
   failed = ends.failed;
+  are_left = ends.are_left;
 })
 flushed_from command left after old new ending end a b handed (Err e) ends on kept failed =
     let report = command_report command ends.text ends.lists in
     let part = cut_ends a b handed e on command ends.count report ending ends.ends in
-    subst (λ e. Answers command left after old new e a b) (sym failed) (record {
+    subst (λ e. Answers false command left after old new e a b) (sym failed) (record {
       text = ends.text;
       is_input = ends.is_input;
       lists = ends.lists;
@@ -130,16 +135,21 @@ flushed_from command left after old new ending end a b handed (Err e) ends on ke
       count = ends.count;
       ends = part;
       is_count = count_flushed command ends.text after report ending ends.count ends.is_count;
-      leaves = λ told are_told. tt;
       usage = (λ u. cc, λ u. absurd (no_part a b (output report) part (refused_silent command ends.text ends.lists u)));
-      failed = λ number e. cc;
+      ended = ends.ended;
+      is_ended = λ other. absurd (other refl);
+      breaks = λ direct. cc;
+      leaves = ends.leaves;
+      asked = ends.asked;
+      failed = ends.failed;
+      are_left = ends.are_left;
     })
 
 -- where the buffer was empty at the start
 pub flushed_ends : (command : Result Command Reason) (left after : Option (List ℕ)) (old new : List Seen) (ending end : Ending) (a b : Option (List ℕ)) (start handed : List ℕ) (r : Result (Unit {0}) Failed) → start ≡ []
-    → Answers command left after old new ending (Some start) (Some handed) → AppendsWhole a b r handed → OnOk r (end ≡ ending) → OnErr r (end ≡ WriteFault) → Answers command left after old new end a b
+    → Answers true command left after old new ending (Some start) (Some handed) → AppendsWhole a b r handed → OnOk r (end ≡ ending) → OnErr r (end ≡ WriteFault) → Answers false command left after old new end a b
 flushed_ends command left after old new ending end a b start handed r empty ends on kept failed =
-    flushed_from command left after old new ending end a b handed r (subst (λ held. Answers command left after old new ending (Some held) (Some handed)) empty ends) on kept failed
+    flushed_from command left after old new ending end a b handed r (subst (λ held. Answers true command left after old new ending (Some held) (Some handed)) empty ends) on kept failed
 
 -- a fault that was counted once stays counted
 later_fault : (before mid now : ℕ) → Rose before mid → mid ≤ now → Rose before now
@@ -149,11 +159,13 @@ first_fault : (before mid now : ℕ) → before ≤ mid → Rose mid now → Ros
 first_fault before mid now later rose = grind (arith)
 
 pub flushed_fault : (ending end : Ending) (before mid now : ℕ) (r : Result (Unit {0}) Failed) → HasFault ending before mid → HasCause mid now r → OnOk r (end ≡ ending) → OnErr r (end ≡ WriteFault) → HasFault end before now
-flushed_fault ending end before mid now (Ok x) fault cause kept failed = record {
+flushed_fault ending end before mid now (Ok x) fault cause same failed = record {
   later = omega (arith, fault.later, cause.later);
-  failed = λ e. later_fault before mid now (fault.failed (sym kept ∙ e)) cause.later;
+  failed = λ e. later_fault before mid now (fault.failed (sym same ∙ e)) cause.later;
+  kept = λ other. cause.kept ∙ fault.kept (λ e. other (same ∙ e));
 }
-flushed_fault ending end before mid now (Err e) fault cause kept failed = record {
+flushed_fault ending end before mid now (Err e) fault cause same failed = record {
   later = omega (arith, fault.later, cause.later);
   failed = λ e. first_fault before mid now fault.later cause.failed;
+  kept = λ other. absurd (other failed);
 }

@@ -1,11 +1,12 @@
 -- The answer to `batch`: the answers to the lines of the input, one after another. Before each line the catalogues hold one of `lists`.
-use Rattle.std.specs.Prelude.{◌≡◌, ◌≤◌, ℕ, ◌+◌, ◌-◌, Bool, false, List, [], ◌∷◌, ◌++◌, drop, get_or, take, Option, Some, None, Result, Ok, Err, if◌then◌else◌, ⊤}
+use Rattle.std.specs.Prelude.{◌≡◌, ◌≢◌, ◌≤◌, ℕ, ◌+◌, ◌-◌, Bool, false, List, [], ◌∷◌, ◌++◌, drop, get_or, take, Option, Some, None, Result, Ok, Err, if◌then◌else◌, ⊤}
 use Rattle.std.specs.List.{flat_map}
 use Rattle.std.specs.Io.KnownBytes.{Appends, Keeps}
 use Rattle.catalogues.specs.Consulted.{AreHeld, AreTold}
 use Rattle.catalogues.specs.Entries.{Seen}
+use Rattle.design_answers.specs.Answered.{AsksBy}
 use Rattle.catalogues.specs.declared.catalogue.Entry.{Entry}
-use Rattle.design_answers.specs.Requests.{asks_catalogues, lists_after, request_report}
+use Rattle.design_answers.specs.Requests.{asked_for, asks_catalogues, lists_after, request_report}
 use Rattle.design_base.specs.declared.limits.TheConstants.{INPUT_MAX}
 use Rattle.design_io.specs.Faults.{Rose}
 use Rattle.design_io.specs.Inputs.{IsInput}
@@ -16,7 +17,8 @@ use Rattle.design_lines.specs.declared.command.Request.{Request}
 use Rattle.design_lines.specs.declared.command.Reason.{Reason}
 use Rattle.design_reports.specs.Endings.{message_of}
 use Rattle.design_reports.specs.Reports.{Report, output, silent}
-use Rattle.design_reports.specs.declared.ending.Ending.TheVariants.{Yes, Refused, BadInput}
+use Rattle.design_reports.specs.declared.ending.Ending.{Ending}
+use Rattle.design_reports.specs.declared.ending.Ending.TheVariants.{Yes, Refused, BadInput, CatalogueFault, NoMemory, WriteFault}
 use Rattle.design_cli.specs.declared.batching.Stop.{Stop}
 use Rattle.design_cli.specs.declared.batching.Stop.TheVariants.{Catalogue, Memory, Write}
 
@@ -49,6 +51,15 @@ line_asks (Err reason) = false
 line_asks (Ok None) = false
 line_asks (Ok (Some request)) = asks_catalogues request
 
+-- how many catalogues the answer to a line asks, where it asks some, by what is read of it
+abbrev pub asked_by_line : Result (Option Request) Reason → List (List Entry) → Option ℕ
+asked_by_line (Err reason) lists = None
+asked_by_line (Ok None) lists = None
+asked_by_line (Ok (Some request)) lists = asked_for request lists
+
+unfoldable pub line_asked : List ℕ → List (List Entry) → Option ℕ
+line_asked line lists = asked_by_line (parse_in_batch line) lists
+
 -- an answer in front of those of a report
 abbrev pub in_front : List ℕ → Report → Report
 in_front answer report = record { lines = answer ∷ report.lines; ending = report.ending }
@@ -67,6 +78,11 @@ batch_report input lists = batch_from 1 INPUT_MAX lists (lines_of input)
 unfoldable pub handed_on : List (List Entry) → List InputLine → List (List (List Entry))
 handed_on lists [] = lists ∷ []
 handed_on lists (line ∷ lines) = lists ∷ handed_on (lists_behind (content_of line) lists) lines
+
+-- the catalogues were asked for each of these lines in turn, and hold the lists before them
+unfoldable pub AsksEach : List InputLine → List (List (List Entry)) → List Seen → List Seen → Type 0
+AsksEach [] lists old new = new ≡ old
+AsksEach (line ∷ lines) lists old new = (mid : List Seen) × AsksBy Yes (line_asked (content_of line) (get_or lists 0 [])) old mid × AsksEach lines (drop 1 lists) mid new
 
 -- The answers to the first lines stand, and nothing of those behind them.
 abbrev pub AppendsFirst : ℕ → Option (List ℕ) → Option (List ℕ) → List (List ℕ) → Type 0
@@ -87,7 +103,14 @@ EndsLine answer (Err Memory) old new = Keeps old new
 EndsLine answer (Err (Catalogue number)) old new = Keeps old new
 EndsLine answer (Err Write) old new = AppendsPart old new answer
 
--- and of the catalogues
+-- how the answer to it ended
+abbrev pub ending_at : Result (Unit {0}) Stop → Ending
+ending_at (Ok done) = Yes
+ending_at (Err Memory) = NoMemory
+ending_at (Err (Catalogue number)) = CatalogueFault number
+ending_at (Err Write) = WriteFault
+
+-- and what it left of the catalogues
 abbrev pub LeavesLine : Result (Unit {0}) Stop → List Seen → List (List Entry) → Type 0
 LeavesLine (Ok done) new lists = AreTold new lists
 LeavesLine (Err Memory) new lists = ⊤
@@ -100,8 +123,10 @@ pub record AnswersLine (line : List ℕ) (old new : List Seen) (result : Result 
   pub are_held : AreHeld old lists
   pub ends : EndsLine (line_answer lists line) result held now
   pub leaves : AreTold old lists → LeavesLine result new (lists_behind line lists)
+  pub asked : AsksBy (ending_at result) (line_asked line lists) old new
 
--- The count of the output's faults never falls, and the output failed where the batch stops for it.
+-- The count of the output's faults never falls, the output failed where the batch stops for it, and else the count stays.
 pub record StopsWith (result : Result (Unit {0}) Stop) (before now : ℕ) : Type 0 where
   pub later : before ≤ now
   pub failed : result ≡ Err Write → Rose before now
+  pub kept : result ≢ Err Write → now ≡ before

@@ -1,8 +1,8 @@
 -- What the program answers: the lines on the output, and how the run ends.
-use Rattle.std.specs.Prelude.{ℕ, Bool, true, false, ◌||◌, List, [], ◌∷◌, drop, get_or, if◌then◌else◌, map, Result, Ok, Err, String, string_bytes}
+use Rattle.std.specs.Prelude.{ℕ, Bool, true, false, ◌||◌, List, [], ◌∷◌, drop, get_or, if◌then◌else◌, map, None, Option, Result, Ok, Err, String, string_bytes}
 use Rattle.block_texts.specs.BlockText.{BlockText, blocks, bad_line, block_text}
 use Rattle.catalogues.specs.declared.catalogue.Entry.{Entry}
-use Rattle.design_answers.specs.Requests.{asks_catalogues, lists_after, request_report, workload_report}
+use Rattle.design_answers.specs.Requests.{asked_for, asks_catalogues, lists_after, request_report, workload_report}
 use Rattle.design_base.specs.declared.query.Query.{Query}
 use Rattle.design_io.specs.InputLines.{InputLine, content_of, lines_of}
 use Rattle.design_lines.specs.CommandLines.{parse, parse_in_batch}
@@ -50,6 +50,11 @@ OfBatch false A B = B
 abbrev pub asks_alone : Result Command Reason → Bool
 asks_alone (Ok (On request)) = asks_catalogues request
 asks_alone command = false
+
+-- how many of them, where it asks some
+abbrev pub asked_alone : Result Command Reason → List (List Entry) → Option ℕ
+asked_alone (Ok (On request)) lists = asked_for request lists
+asked_alone command lists = None
 
 -- what they hold behind it
 abbrev pub left_alone : Result Command Reason → List (List Entry) → List (List Entry)

@@ -1,14 +1,15 @@
 //! The top call.
 ghost use Rattle.std.specs.Prelude.{◌≡◌, ◌≢◌, ◌<◌, ◌^◌, List, Ok, OnErr, false, length, map, true, ℕ};
+ghost use Rattle.catalogues.specs.Left.{AreLeft};
 ghost use Rattle.derivation_text.specs.Spelling.{ReadBackLaw};
 ghost use Rattle.derivations.specs.Laws.{DerivationLaw, ReplayLaw, YesLaw};
 ghost use Rattle.design_answers.specs.Answered.{AnswersOn, HasOfferFault};
-ghost use Rattle.design_answers.specs.Requests.{asks_catalogues, lists_after, request_report, workload_report};
+ghost use Rattle.design_answers.specs.Requests.{asked_for, asks_catalogues, lists_after, request_report, workload_report};
 ghost use Rattle.design_base.specs.Limits.{in_bounds, within};
 ghost use Rattle.design_base.specs.declared.limits.TheConstants.{WORKLOAD_MAX};
 ghost use Rattle.design_cli.specs.Laws.{PrintedRowsLaw, PrintedSquaresLaw, ValidLaw, ValidRowsLaw, ValidSquaresLaw};
 ghost use Rattle.design_cli.specs.Report.{command_of, may_ask};
-ghost use Rattle.design_cli.specs.Runs.{Answers, BreaksOn, RunsOn};
+ghost use Rattle.design_cli.specs.Runs.{Answers, RunsOn};
 ghost use Rattle.design_io.specs.Faults.{Rose};
 ghost use Rattle.design_lines.specs.CommandLines.{IsInBounds};
 ghost use Rattle.design_lines.specs.Keywords.{reads_input};
@@ -39,7 +40,7 @@ fn open_oracle<'a, L: Ledger>(
 }
 
 // Answers a verb on a question by the table of rules.
-#[tactic(auto, using(crate::proofs::Runnings::unopened_request))]
+#[tactic(auto, using(catalogues::proofs::Left::left_refl, crate::proofs::Runnings::unopened_request))]
 fn answer_on<K: Sink, L: Ledger>(
     alloc: Global,
     request: Request,
@@ -49,9 +50,10 @@ fn answer_on<K: Sink, L: Ledger>(
 ) -> Ending
     requires bounds { in_bounds request.query ≡ true }
     requires few { length catalogues.old.items < 2 ^ 32 }
-    ensures ends { AnswersOn (map seen catalogues.old.items) (map seen catalogues.new.items) (request_report request) (lists_after request) result (K.held out.old) (K.held out.new) }
+    ensures ends { AnswersOn (map seen catalogues.old.items) (map seen catalogues.new.items) (request_report request) (lists_after request) (asked_for request) result (K.held out.old) (K.held out.new) }
     ensures cause { HasFault result (K.faults out.old) (K.faults out.new) }
     ensures offer { (number : ℕ) → result ≡ Ending.CatalogueFault number → HasOfferFault (asks_catalogues request) (map seen catalogues.old.items) (map seen catalogues.new.items) number }
+    ensures left { AreLeft (map seen catalogues.old.items) (map seen catalogues.new.items) }
     ensures unasked { asks_catalogues request ≡ false → catalogues.new ≡ catalogues.old }
     ensures no_read { result ≢ Ending.ReadFault }
     ensures answered { IsAnswer result }
@@ -72,8 +74,7 @@ fn answer_lines<S: Source, K: Sink, L: Ledger>(
     out: &mut K,
 ) -> Ending
     requires { length catalogues.old.items < 2 ^ 32 }
-    ensures ends { Answers (Ok Batch) (S.left input.old) (S.left input.new) (map seen catalogues.old.items) (map seen catalogues.new.items) result (K.held out.old) (K.held out.new) }
-    ensures broken { result ≡ Ending.WriteFault → BreaksOn (Ok Batch) (S.left input.old) (map seen catalogues.old.items) (map seen catalogues.new.items) (K.held out.old) (K.held out.new) }
+    ensures ends { Answers true (Ok Batch) (S.left input.old) (S.left input.new) (map seen catalogues.old.items) (map seen catalogues.new.items) result (K.held out.old) (K.held out.new) }
     ensures cause { HasFault result (K.faults out.old) (K.faults out.new) }
     ensures read_cause { HasReadFault result (S.faults input.old) (S.faults input.new) }
 {
@@ -114,8 +115,7 @@ fn answer_command<S: Source, K: Sink, L: Ledger>(
 ) -> Ending
     requires bounds { IsInBounds command }
     requires few { length catalogues.old.items < 2 ^ 32 }
-    ensures ends { Answers (Ok command) (S.left input.old) (S.left input.new) (map seen catalogues.old.items) (map seen catalogues.new.items) result (K.held out.old) (K.held out.new) }
-    ensures broken { result ≡ Ending.WriteFault → BreaksOn (Ok command) (S.left input.old) (map seen catalogues.old.items) (map seen catalogues.new.items) (K.held out.old) (K.held out.new) }
+    ensures ends { Answers true (Ok command) (S.left input.old) (S.left input.new) (map seen catalogues.old.items) (map seen catalogues.new.items) result (K.held out.old) (K.held out.new) }
     ensures cause { HasFault result (K.faults out.old) (K.faults out.new) }
     ensures read_cause { HasReadFault result (S.faults input.old) (S.faults input.new) }
     ensures reading { result ≡ Ending.ReadFault → reads_input (Ok command) ≡ true }
@@ -143,8 +143,7 @@ pub(crate) fn answer<S: Source, K: Sink, L: Ledger>(
     out: &mut K,
 ) -> Ending
     requires { length catalogues.old.items < 2 ^ 32 }
-    ensures ends { Answers (command_of words.now) (S.left input.old) (S.left input.new) (map seen catalogues.old.items) (map seen catalogues.new.items) result (K.held out.old) (K.held out.new) }
-    ensures broken { result ≡ Ending.WriteFault → BreaksOn (command_of words.now) (S.left input.old) (map seen catalogues.old.items) (map seen catalogues.new.items) (K.held out.old) (K.held out.new) }
+    ensures ends { Answers true (command_of words.now) (S.left input.old) (S.left input.new) (map seen catalogues.old.items) (map seen catalogues.new.items) result (K.held out.old) (K.held out.new) }
     ensures cause { HasFault result (K.faults out.old) (K.faults out.new) }
     ensures read_cause { HasReadFault result (S.faults input.old) (S.faults input.new) }
     ensures reading { result ≡ Ending.ReadFault → reads_input (command_of words.now) ≡ true }
@@ -175,13 +174,10 @@ pub fn run<S: Source, K: Sink, E: Sink, L: Ledger>(
     requires { length catalogues.old.items < 2 ^ 32 }
 
     // There are a text, what the input has left where that is told, and entries, those of the catalogues where they are told, whose report this is: the
-    // status, the bytes on the output, of which a part stands after a fault, the line on the error output, and the entries afterwards. The count of
-    // the catalogue that a fault names rose.
-    ensures report { RunsOn (command_of words.now) (S.left input.old) (S.left input.new) (map seen catalogues.old.items) (map seen catalogues.new.items) result (K.held out.old) (K.held out.new) (λ line. Says line (E.held err.old) (E.held err.new) (E.faults err.old) (E.faults err.new)) }
-
-    // After a failed write the catalogues, where all tell, tell what the line leaves at which it failed: of a batch the answers to the lines before it
-    // stand whole.
-    ensures broken { result ≡ Status.WriteFault → BreaksOn (command_of words.now) (S.left input.old) (map seen catalogues.old.items) (map seen catalogues.new.items) (K.held out.old) (K.held out.new) }
+    // status, the bytes on the output, of which a part stands after a fault, the line on the error output, and the entries afterwards. The catalogues
+    // were asked where the report says so and as it says, each once, told or not; a fault names the one whose offer failed. After a write that failed
+    // the answers to the lines of a batch before it stand whole.
+    ensures report { RunsOn true (command_of words.now) (S.left input.old) (S.left input.new) (map seen catalogues.old.items) (map seen catalogues.new.items) result (K.held out.old) (K.held out.new) (λ line. Says line (E.held err.old) (E.held err.new) (E.faults err.old) (E.faults err.new)) }
 
     // The blocks of a yes are such a design, under a no there is no such design, and a question is unknown exactly where no criterion
     // and no rule applies.
@@ -204,10 +200,15 @@ pub fn run<S: Source, K: Sink, E: Sink, L: Ledger>(
     ensures valid_rows { ValidRowsLaw }
     ensures valid_squares { ValidSquaresLaw }
 
-    // A fault comes only where the count of its object rose, and a read fault only where the words read the input.
+    // A fault comes exactly where the count of its object rose, and a read fault only where the words read the input.
     ensures write_fault { result ≡ Status.WriteFault → Rose (K.faults out.old) (K.faults out.new) }
+    ensures no_write_fault { result ≢ Status.WriteFault → K.faults out.new ≡ K.faults out.old }
     ensures read_fault { result ≡ Status.ReadFault → Rose (S.faults input.old) (S.faults input.new) }
+    ensures no_read_fault { result ≢ Status.ReadFault → S.faults input.new ≡ S.faults input.old }
     ensures reading { result ≡ Status.ReadFault → reads_input (command_of words.now) ≡ true }
+
+    // These are left of the catalogues, in their order, and the others are spent.
+    ensures left { AreLeft (map seen catalogues.old.items) (map seen catalogues.new.items) }
 
     ensures memory { OnErr (command_of words.now) (result ≢ Status.NoMemory) }
     ensures unread { reads_input (command_of words.now) ≡ false → input.new ≡ input.old }

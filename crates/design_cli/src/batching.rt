@@ -1,12 +1,12 @@
 //! The answer to `batch`: the answers to the lines of the input, one after another.
-ghost use Rattle.std.specs.Prelude.{◌≡◌, ◌≢◌, ◌↔◌, ◌<◌, ◌^◌, ℕ, Err, List, Ok, Option, length, map};
+ghost use Rattle.std.specs.Prelude.{◌≡◌, ◌≢◌, ◌↔◌, ◌<◌, ◌^◌, ℕ, Err, List, Ok, Option, length, map, true};
 ghost use Rattle.catalogues.specs.Entries.{Seen};
 ghost use Rattle.catalogues.specs.Left.{AreLeft};
 ghost use Rattle.catalogues.specs.declared.catalogue.Entry.{Entry};
-ghost use Rattle.design_answers.specs.Answered.{HasOfferFault, LeavesTold};
+ghost use Rattle.design_answers.specs.Answered.{AsksBy, LeavesTold};
 ghost use Rattle.design_base.specs.declared.limits.TheConstants.{INPUT_MAX};
-ghost use Rattle.design_cli.specs.Batches.{AnswersLine, EndsLine, LeavesLine, StopsWith, line_asks, written};
-ghost use Rattle.design_cli.specs.Runs.{Answers, BreaksOn};
+ghost use Rattle.design_cli.specs.Batches.{AnswersLine, EndsLine, LeavesLine, StopsWith, ending_at, line_asks, written};
+ghost use Rattle.design_cli.specs.Runs.{Answers};
 ghost use Rattle.design_lines.specs.CommandLines.{parse_in_batch};
 ghost use Rattle.design_lines.specs.declared.command.Command.TheVariants.{Batch};
 ghost use Rattle.design_reports.specs.Answers.{EndsWith, HasFault, HasReadFault, IsAnswer};
@@ -38,6 +38,7 @@ fn end_line<K: Sink>(ending: Ending, out: &mut K) -> Result<(), Stop>
     ensures ends { (report : Report) → (before : Option (List ℕ)) → EndsWith report ending before (K.held out.old) → EndsLine (written report) result before (K.held out.new) }
     ensures stops { (number : ℕ) → (result ≡ Err (Stop.Catalogue number)) ↔ (ending ≡ Ending.CatalogueFault number) }
     ensures leaves { (new : List Seen) → (entries : List (List Entry)) → LeavesTold ending new entries → LeavesLine result new entries }
+    ensures asked { (asks : Option ℕ) → (old : List Seen) → (new : List Seen) → AsksBy ending asks old new → AsksBy (ending_at result) asks old new }
     ensures cause { (before : ℕ) → HasFault ending before (K.faults out.old) → StopsWith result before (K.faults out.new) }
 {
     match ending {
@@ -62,7 +63,7 @@ fn answer_line<K: Sink, A: Asker + Drop, L: Ledger>(
     requires { length catalogues.old.items < 2 ^ 32 }
     ensures ends { AnswersLine line.now (map seen catalogues.old.items) (map seen catalogues.new.items) result (K.held out.old) (K.held out.new) }
     ensures cause { StopsWith result (K.faults out.old) (K.faults out.new) }
-    ensures offer { (number : ℕ) → result ≡ Err (Stop.Catalogue number) → HasOfferFault (line_asks (parse_in_batch line.now)) (map seen catalogues.old.items) (map seen catalogues.new.items) number }
+    ensures offer { (number : ℕ) → result ≡ Err (Stop.Catalogue number) → line_asks (parse_in_batch line.now) ≡ true }
     ensures left { AreLeft (map seen catalogues.old.items) (map seen catalogues.new.items) }
 {
     match read_line(line) {
@@ -85,8 +86,7 @@ pub fn answer_batch<S: Source, K: Sink, A: Asker + Drop, L: Ledger>(
     out: &mut K,
 ) -> Ending
     requires { length catalogues.old.items < 2 ^ 32 }
-    ensures ends { Answers (Ok Batch) (S.left input.old) (S.left input.new) (map seen catalogues.old.items) (map seen catalogues.new.items) result (K.held out.old) (K.held out.new) }
-    ensures broken { result ≡ Ending.WriteFault → BreaksOn (Ok Batch) (S.left input.old) (map seen catalogues.old.items) (map seen catalogues.new.items) (K.held out.old) (K.held out.new) }
+    ensures ends { Answers true (Ok Batch) (S.left input.old) (S.left input.new) (map seen catalogues.old.items) (map seen catalogues.new.items) result (K.held out.old) (K.held out.new) }
     ensures cause { HasFault result (K.faults out.old) (K.faults out.new) }
     ensures read_cause { HasReadFault result (S.faults input.old) (S.faults input.new) }
     ensures answered { IsAnswer result }

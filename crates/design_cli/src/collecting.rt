@@ -1,5 +1,6 @@
 //! The top call over an output that gets the report in few pieces.
 ghost use Rattle.std.specs.Prelude.{◌≡◌, ◌≢◌, ◌<◌, ◌^◌, OnErr, OnOk, false, length, map, true};
+ghost use Rattle.catalogues.specs.Left.{AreLeft};
 ghost use Rattle.derivation_text.specs.Spelling.{ReadBackLaw};
 ghost use Rattle.derivations.specs.Laws.{DerivationLaw, ReplayLaw, YesLaw};
 ghost use Rattle.design_cli.specs.Laws.{PrintedRowsLaw, PrintedSquaresLaw, ValidLaw, ValidRowsLaw, ValidSquaresLaw};
@@ -52,9 +53,9 @@ fn answer_buffered<S: Source, K: Sink, L: Ledger, O: Origin>(
 ) -> (Ending, K)
     requires few { length catalogues.old.items < 2 ^ 32 }
     requires start { O.start ≡ K.held out }
-    ensures ends { Answers (command_of words.now) (S.left input.old) (S.left input.new) (map seen catalogues.old.items) (map seen catalogues.new.items) result.0 (K.held out) (K.held result.1) }
+    ensures ends { Answers false (command_of words.now) (S.left input.old) (S.left input.new) (map seen catalogues.old.items) (map seen catalogues.new.items) result.0 (K.held out) (K.held result.1) }
     ensures cause { HasFault result.0 (K.faults out) (K.faults result.1) }
-    ensures read_cause { HasReadFault result.0 (S.faults input.old) (S.faults input.new) }
+    ensures read_cause { result.0 ≢ Ending.WriteFault → HasReadFault result.0 (S.faults input.old) (S.faults input.new) }
     ensures reading { result.0 ≡ Ending.ReadFault → reads_input (command_of words.now) ≡ true }
     ensures memory { OnErr (command_of words.now) (result.0 ≢ Ending.NoMemory) }
     ensures unread { reads_input (command_of words.now) ≡ false → input.new ≡ input.old }
@@ -81,9 +82,10 @@ pub fn run_buffered<S: Source, K: Sink, E: Sink, L: Ledger>(
     requires { length catalogues.old.items < 2 ^ 32 }
 
     // There are a text, what the input has left where that is told, and entries, those of the catalogues where they are told, whose report this is: the
-    // status, the bytes on the output, of which a part stands after a fault, the line on the error output, and the entries afterwards. The count of
-    // the catalogue that a fault names rose.
-    ensures report { RunsOn (command_of words.now) (S.left input.old) (S.left input.new) (map seen catalogues.old.items) (map seen catalogues.new.items) result.0 (K.held out) (K.held result.1) (λ line. Says line (E.held err.old) (E.held err.new) (E.faults err.old) (E.faults err.new)) }
+    // status, the bytes on the output, of which a part stands after a fault, the line on the error output, and the entries afterwards. The catalogues
+    // were asked where the report says so and as it says, each once, told or not, also where the output failed later; a fault names the one whose offer
+    // failed.
+    ensures report { RunsOn false (command_of words.now) (S.left input.old) (S.left input.new) (map seen catalogues.old.items) (map seen catalogues.new.items) result.0 (K.held out) (K.held result.1) (λ line. Says line (E.held err.old) (E.held err.new) (E.faults err.old) (E.faults err.new)) }
 
     // The blocks of a yes are such a design, under a no there is no such design, and a question is unknown exactly where no criterion
     // and no rule applies.
@@ -106,10 +108,15 @@ pub fn run_buffered<S: Source, K: Sink, E: Sink, L: Ledger>(
     ensures valid_rows { ValidRowsLaw }
     ensures valid_squares { ValidSquaresLaw }
 
-    // A fault comes only where the count of its object rose, and a read fault only where the words read the input.
+    // A fault comes exactly where the count of its object rose, and a read fault only where the words read the input.
     ensures write_fault { result.0 ≡ Status.WriteFault → Rose (K.faults out) (K.faults result.1) }
+    ensures no_write_fault { result.0 ≢ Status.WriteFault → K.faults result.1 ≡ K.faults out }
     ensures read_fault { result.0 ≡ Status.ReadFault → Rose (S.faults input.old) (S.faults input.new) }
+    ensures no_read_fault { result.0 ≢ Status.ReadFault → result.0 ≢ Status.WriteFault → S.faults input.new ≡ S.faults input.old }
     ensures reading { result.0 ≡ Status.ReadFault → reads_input (command_of words.now) ≡ true }
+
+    // These are left of the catalogues, in their order, and the others are spent.
+    ensures left { AreLeft (map seen catalogues.old.items) (map seen catalogues.new.items) }
 
     ensures memory { OnErr (command_of words.now) (result.0 ≢ Status.NoMemory) }
     ensures unread { reads_input (command_of words.now) ≡ false → input.new ≡ input.old }

@@ -1,10 +1,8 @@
 //! The answer to `replay`: what the derivation that the input holds leads to.
-ghost use Rattle.std.specs.Prelude.{◌≡◌, ◌≢◌, ◌++◌, ◌<◌, ◌≤◌, length, true, ℕ};
+ghost use Rattle.std.specs.Prelude.{◌≡◌, ◌≢◌, ◌++◌, ◌<◌, ◌≤◌, length, ℕ};
 ghost use Rattle.std.specs.List.{flat_map};
 ghost use Rattle.derivation_text.specs.Grammar.{parse_input as input_derivation};
 ghost use Rattle.derivations.specs.Derivations.{fault as fault_of};
-ghost use Rattle.design_base.specs.Limits.{in_bounds};
-ghost use Rattle.design_base.specs.Meets.{Meets};
 ghost use Rattle.design_base.specs.declared.limits.TheConstants.{INPUT_MAX};
 ghost use Rattle.design_cli.specs.Replays.{derivation_report, design_report, fault_report, read_report, replay_report};
 ghost use Rattle.design_cli.specs.Runs.{EndsOn};
@@ -20,7 +18,7 @@ use design_base::{INPUT_MAX, Query};
 use design_checks::Finding;
 use design_io::{Failed, Sink, Source, read_all};
 use design_reports::{Ending, Part, write_fault, write_finding, write_part};
-use incidence::Rows;
+use proved_designs::Design;
 use rule_table::Tools;
 use std::alloc::Global;
 
@@ -51,16 +49,15 @@ fn write_design<K: Sink>(out: &mut K, query: &Query, blocks: &Part) -> Result<()
 
 // Says that the question has a design, and its blocks.
 #[tactic(auto, using(design_reports::proofs::Printable::blocks_fit))]
-fn answer_design<K: Sink>(query: &Query, blocks: Rows, out: &mut K) -> Ending
-    requires bounds { in_bounds query.now ≡ true }
-    requires design { Meets query.now blocks }
-    ensures ends { EndsWith (design_report query.now blocks) result (K.held out.old) (K.held out.new) }
+fn answer_design<K: Sink>(design: Design, out: &mut K) -> Ending
+    ensures ends { EndsWith (design_report design.query design.blocks) result (K.held out.old) (K.held out.new) }
     ensures cause { HasFault result (K.faults out.old) (K.faults out.new) }
     ensures answered { IsAnswer result }
     ensures no_offer { (number : ℕ) → result ≢ Ending.CatalogueFault number }
     ensures no_read { result ≢ Ending.ReadFault }
 {
-    match write_design(out, query, &Part::Blocks(blocks)) {
+    let query = design.query();
+    match write_design(out, &query, &Part::Blocks(design.into_blocks())) {
         Ok(()) => Ending::Yes,
         Err(Failed) => Ending::WriteFault,
     }
@@ -77,7 +74,7 @@ fn answer_derivation<K: Sink>(alloc: Global, lines: &Derivation, out: &mut K) ->
 {
     let tools = Tools::new(alloc);
     match replay(alloc, lines, &tools) {
-        Ok((query, blocks)) => answer_design(&query, blocks, out),
+        Ok(design) => answer_design(design, out),
         Err(ReplayEnd::BadLine { number, fault }) => answer_fault(Fault { number, fault }, out),
         Err(ReplayEnd::Memory) => Ending::NoMemory,
     }

@@ -13,6 +13,6 @@ pub use lines::{
     write_because, write_counted, write_fault, write_finding, write_refused_offer,
     write_valid_offer, write_verdict,
 };
-pub use parts::{Part, part_of_blocks, write_part};
+pub use parts::{Part, part_of_design, write_part};
 pub use saying::say;
 pub use status::Status;

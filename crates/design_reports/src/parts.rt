@@ -1,9 +1,7 @@
 //! The blocks of a design, as they are written.
-ghost use Rattle.std.specs.Prelude.{◌≡◌, ◌+◌, ◌*◌, ◌<◌, ◌≤◌, ◌∷◌, All, IfOk, length, map, true};
+ghost use Rattle.std.specs.Prelude.{◌≡◌, ◌+◌, ◌*◌, ◌<◌, ◌≤◌, ◌∷◌, All, IfOk, length, map};
 ghost use Rattle.std.specs.List.{flat_map};
 ghost use Rattle.counting.specs.Sums.{join_below};
-ghost use Rattle.design_base.specs.Limits.{in_bounds};
-ghost use Rattle.design_base.specs.Meets.{Meets};
 ghost use Rattle.design_base.specs.declared.limits.TheConstants.{POINTS_MAX};
 ghost use Rattle.design_io.specs.Faults.{HasCause};
 ghost use Rattle.design_io.specs.Pieces.{AppendsWhole};
@@ -17,6 +15,7 @@ use design_base::{Memory, Query};
 use design_io::{Failed, Sink};
 use design_lines::{RowPrinter, Shape};
 use incidence::Rows;
+use proved_designs::Design;
 use std::alloc::Global;
 
 /// The blocks of a design, in the shape that was asked for.
@@ -30,28 +29,21 @@ pub enum Part {
     Squares(u16, u16, Rows),
 }
 
-/// The blocks of a design of the question, in a shape.
-pub fn part_of_blocks(
-    alloc: Global,
-    query: &Query,
-    shape: Shape,
-    blocks: Rows,
-) -> Result<Part, Memory>
-    requires bounds { in_bounds query.now ≡ true }
-    requires design { Meets query.now blocks }
-    ensures part { IfOk result (λ part. part ≡ part_of query.now shape blocks) }
+/// The blocks of a design, in a shape. The answer is `Memory` only for want of memory.
+pub fn part_of_design(alloc: Global, design: Design, shape: Shape) -> Result<Part, Memory>
+    ensures part { IfOk result (λ part. part ≡ part_of design.query shape design.blocks) }
     ensures printable { IfOk result IsPrintable }
 {
-    match (*query, shape) {
+    match (design.query(), shape) {
         (Query::Td { k, n }, Shape::Rows) => {
-            let rows = rows_of_td(alloc, k, n, &blocks)?;
+            let rows = rows_of_td(alloc, k, n, design.blocks())?;
             Ok(Part::Rows(rows))
         }
         (Query::Td { k, n }, Shape::Squares) => {
-            let lines = squares_of_td(alloc, k, n, &blocks)?;
+            let lines = squares_of_td(alloc, k, n, design.blocks())?;
             Ok(Part::Squares(k - 2, n, lines))
         }
-        _ => Ok(Part::Blocks(blocks)),
+        _ => Ok(Part::Blocks(design.into_blocks())),
     }
 }
 

@@ -1,6 +1,6 @@
 use Rattle.catalogues.proofs.Failed.{by_end}
 use Rattle.catalogues.proofs.Found.{is_consulted}
-use Rattle.catalogues.proofs.Left.{asks_seen, left_after, left_after_end}
+use Rattle.catalogues.proofs.Left.{asks_first, left_after, left_after_end}
 use Rattle.catalogues.proofs.Sound.{sound}
 use Rattle.catalogues.proofs.consulting.consult.Goals as goal
 
@@ -11,7 +11,7 @@ pub returns-in-Ok-clause-sound : goal.returns-in-Ok-clause-sound
 returns-in-Ok-clause-sound g c = sound c.args.q.now _ _ _ _ c.in-Ok.ensures
 
 pub returns-in-Ok-clause-ends : goal.returns-in-Ok-clause-ends
-returns-in-Ok-clause-ends g c = asks_seen _ c.args.q.now c.args.list.now.items _ _ _ c.in-Ok.ensures
+returns-in-Ok-clause-ends g c = asks_first c.args.q.now _ _ _ _ c.in-Ok.ensures
 
 pub returns-in-Ok-clause-left : goal.returns-in-Ok-clause-left
 returns-in-Ok-clause-left g c = left_after c.args.q.now _ _ _ _ c.in-Ok.ensures

@@ -1,5 +1,10 @@
-use Rattle.design_answers.proofs.Offered.{ended_on}
+use Rattle.design_answers.proofs.Offered.{consulted_on, ended_on}
 use Rattle.design_answers.proofs.asking.answer_open.Goals as goal
 
+pub returns-in-Ok-clause-ends : goal.returns-in-Ok-clause-ends
+returns-in-Ok-clause-ends g c =
+    consulted_on c.args.query.now _ _ _ _ c.in-Ok.ensures.told c.in-Ok.ensures.ends c.answer_offers.result c.answer_offers.ensures.no_offer (g.K.Sink.held c.args.out.now) (g.K.Sink.held c.answer_offers.new.out)
+    (rw (c.as_slice.ensures, c.counted-valid.ensures) at c.answer_offers.ensures.ends)
+
 pub returns-in-Err-clause-ends : goal.returns-in-Err-clause-ends
-returns-in-Err-clause-ends g c = ended_on _ _ _ _ c.in-Err.end _ (g.K.Sink.held c.args.out.now) c.ending_of.ensures
+returns-in-Err-clause-ends g c = ended_on _ _ _ _ _ c.in-Err.end _ (g.K.Sink.held c.args.out.now) c.ending_of.ensures c.in-Err.ensures.cause

@@ -1,4 +1,4 @@
-use Rattle.std.proofs.Common.{arith}
+use Rattle.std.proofs.Common.{◌∙◌}
 use Rattle.design_io.proofs.Pieces.{AppendsWhole-failed}
 use Rattle.design_answers.proofs.Offered.{refused_more, refused_part}
 use Rattle.design_answers.proofs.offers.write_refused.Goals as goal
@@ -14,5 +14,5 @@ loop-offer-preserved g c = record {
   bytes =
       refused_more c.args.refused.now c.loop-offer.offer-index _ c.loop-offer-test.true (g.K.Sink.held c.args.out.now) (g.K.Sink.held c.loop-offer.out) (g.K.Sink.held c.write_refused_offer.new.out)
       c.loop-offer.invariant.bytes c.in_ok-write_refused_offer.ensures.bytes;
-  later = omega (arith, c.loop-offer.invariant.later, c.in_ok-write_refused_offer.ensures.cause);
+  kept = c.in_ok-write_refused_offer.ensures.cause.kept ∙ c.loop-offer.invariant.kept;
 }

@@ -1,7 +1,7 @@
-use Rattle.std.proofs.Common.{Ok, Err, ap, arith, refl}
+use Rattle.std.proofs.Common.{Ok, Err, ap, refl, ◌∙◌}
 use Rattle.std.specs.Io.KnownBytes.{prepend_known}
 use Rattle.design_io.specs.declared.lines.LineEnd.TheVariants.{Failed, TooLong}
-use Rattle.design_cli.proofs.BatchEnds.{breaks_at, ends_bad, ends_broken, ends_failed, ends_refused, ends_short, ends_whole}
+use Rattle.design_cli.proofs.BatchEnds.{ends_bad, ends_broken, ends_failed, ends_refused, ends_short, ends_whole}
 use Rattle.design_cli.proofs.Batches.{few_left, is_given, line_answered, none_answered, refused_before, told_as}
 use Rattle.design_cli.proofs.batching.answer_batch.Goals as goal
 
@@ -9,8 +9,8 @@ pub loop-line-init : goal.loop-line-init
 loop-line-init g c = record {
   answered = rw c.new-reader.ensures (none_answered (g.S.Source.left c.args.input.now) _ (g.K.Sink.held c.args.out.now));
   few = c.requires;
-  written = omega arith;
-  read = omega arith;
+  written = refl;
+  read = refl;
 }
 
 pub returns-in-Ok-false-clause-ends : goal.returns-in-Ok-false-clause-ends
@@ -39,8 +39,8 @@ loop-line-preserved g c = record {
       c.in-Ok-true.ensures.some c.in-Ok-true.ensures.short c.in-Ok-true.ensures.alone c.in-Ok-true.ensures.ended)
       (rw c.line.ensures at c.in-Ok.ensures.ends) c.answer_line.ensures.left;
   few = few_left _ c.loop-line.catalogues.items c.answer_line.new.catalogues.items c.loop-line.invariant.few c.answer_line.ensures.left;
-  written = omega (arith, c.loop-line.invariant.written, c.answer_line.ensures.cause.later);
-  read = omega (arith, c.loop-line.invariant.read, c.advance.ensures.later);
+  written = c.answer_line.ensures.cause.kept (λ e. cc) ∙ c.loop-line.invariant.written;
+  read = c.in-Ok-true.ensures.faults ∙ c.loop-line.invariant.read;
 }
 
 pub returns-in-Err-Memory-clause-ends : goal.returns-in-Err-Memory-clause-ends
@@ -49,7 +49,7 @@ returns-in-Err-Memory-clause-ends g c =
     c.loop-line.reader c.advance.new.self _ _ (g.K.Sink.held c.args.out.now) (g.K.Sink.held c.loop-line.out) c.loop-line.invariant.answered
     (is_given _ c.loop-line.reader c.advance.new.self _ c.in-Ok-true.field-0 c.in-Ok-true.field-0-test c.in-Ok-true.ensures.given c.in-Ok-true.ensures.over c.in-Ok-true.ensures.lines c.in-Ok-true.ensures.room
     c.in-Ok-true.ensures.some c.in-Ok-true.ensures.short c.in-Ok-true.ensures.alone c.in-Ok-true.ensures.ended) _ (g.K.Sink.held c.answer_line.new.out) (g.S.Source.left c.advance.new.source)
-    (rw (c.in-Err-Memory.field-0-is, c.line.ensures) at c.in-Err-Memory.ensures.ends)
+    (rw (c.in-Err-Memory.field-0-is, c.line.ensures) at c.in-Err-Memory.ensures.ends) c.answer_line.ensures.left
 
 pub returns-in-Err-Catalogue-clause-ends : goal.returns-in-Err-Catalogue-clause-ends
 returns-in-Err-Catalogue-clause-ends g c =
@@ -58,7 +58,7 @@ returns-in-Err-Catalogue-clause-ends g c =
     c.loop-line.reader c.advance.new.self _ _ (g.K.Sink.held c.args.out.now) (g.K.Sink.held c.loop-line.out) c.loop-line.invariant.answered
     (is_given _ c.loop-line.reader c.advance.new.self _ c.in-Ok-true.field-0 c.in-Ok-true.field-0-test c.in-Ok-true.ensures.given c.in-Ok-true.ensures.over c.in-Ok-true.ensures.lines c.in-Ok-true.ensures.room
     c.in-Ok-true.ensures.some c.in-Ok-true.ensures.short c.in-Ok-true.ensures.alone c.in-Ok-true.ensures.ended) _ (g.K.Sink.held c.answer_line.new.out) (g.S.Source.left c.advance.new.source) c.in-Err-Catalogue.number
-    (rw (c.in-Err-Catalogue.field-0-is, c.line.ensures) at c.in-Err-Catalogue.ensures.ends) (rw c.line.ensures at (c.in-Err-Catalogue.ensures.offer c.in-Err-Catalogue.number (ap Err c.in-Err-Catalogue.field-0-is))))
+    (rw (c.in-Err-Catalogue.field-0-is, c.line.ensures) at c.in-Err-Catalogue.ensures.ends) (rw c.line.ensures at (c.in-Err-Catalogue.ensures.offer c.in-Err-Catalogue.number (ap Err c.in-Err-Catalogue.field-0-is))) c.answer_line.ensures.left)
 
 pub returns-in-Err-Write-clause-ends : goal.returns-in-Err-Write-clause-ends
 returns-in-Err-Write-clause-ends g c =
@@ -66,12 +66,4 @@ returns-in-Err-Write-clause-ends g c =
     c.loop-line.reader c.advance.new.self _ _ (g.K.Sink.held c.args.out.now) (g.K.Sink.held c.loop-line.out) c.loop-line.invariant.answered
     (is_given _ c.loop-line.reader c.advance.new.self _ c.in-Ok-true.field-0 c.in-Ok-true.field-0-test c.in-Ok-true.ensures.given c.in-Ok-true.ensures.over c.in-Ok-true.ensures.lines c.in-Ok-true.ensures.room
     c.in-Ok-true.ensures.some c.in-Ok-true.ensures.short c.in-Ok-true.ensures.alone c.in-Ok-true.ensures.ended) _ (g.K.Sink.held c.answer_line.new.out)
-    (rw (c.in-Err-Write.field-0-is, c.line.ensures) at c.in-Err-Write.ensures.ends) (g.S.Source.left c.advance.new.source)
-
-pub returns-in-Err-Write-clause-broken : goal.returns-in-Err-Write-clause-broken
-returns-in-Err-Write-clause-broken g c broken =
-    breaks_at (g.S.Source.left c.args.input.now) (prepend_known c.loop-line.reader.held (g.S.Source.left c.loop-line.input)) (prepend_known c.advance.new.self.held (g.S.Source.left c.advance.new.source))
-    c.loop-line.reader c.advance.new.self _ _ (g.K.Sink.held c.args.out.now) (g.K.Sink.held c.loop-line.out) c.loop-line.invariant.answered
-    (is_given _ c.loop-line.reader c.advance.new.self _ c.in-Ok-true.field-0 c.in-Ok-true.field-0-test c.in-Ok-true.ensures.given c.in-Ok-true.ensures.over c.in-Ok-true.ensures.lines c.in-Ok-true.ensures.room
-    c.in-Ok-true.ensures.some c.in-Ok-true.ensures.short c.in-Ok-true.ensures.alone c.in-Ok-true.ensures.ended) _ (g.K.Sink.held c.answer_line.new.out)
-    (rw (c.in-Err-Write.field-0-is, c.line.ensures) at c.in-Err-Write.ensures.ends)
+    (rw (c.in-Err-Write.field-0-is, c.line.ensures) at c.in-Err-Write.ensures.ends) (g.S.Source.left c.advance.new.source) c.answer_line.ensures.left

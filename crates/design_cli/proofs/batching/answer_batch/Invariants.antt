@@ -1,4 +1,4 @@
-use Rattle.std.proofs.Common.{◌<◌, ◌^◌, ◌≤◌, length, map}
+use Rattle.std.proofs.Common.{◌≡◌, ◌<◌, ◌^◌, length, map}
 use Rattle.std.specs.Io.KnownBytes.{prepend_known}
 use Rattle.design_cli.proofs.Batches.{IsAnswered}
 use Rattle.design_cli.proofs.batching.answer_batch.Given as goal
@@ -9,8 +9,8 @@ invariant-loop-line g l = record {
       (map (λ b. (goal.Catalogue-dyn g (b.vtable, b.value)).seen b.value) l.fn.catalogues.items) (map (λ b. (goal.Catalogue-dyn g (b.vtable, b.value)).seen b.value) l.catalogues.items)
       (g.K.Sink.held l.fn.out) (g.K.Sink.held l.out);
   few : length l.catalogues.items < 2 ^ 32;
-  written : g.K.Sink.faults l.fn.out ≤ g.K.Sink.faults l.out;
-  read : g.S.Source.faults l.fn.input ≤ g.S.Source.faults l.input;
+  written : g.K.Sink.faults l.out ≡ g.K.Sink.faults l.fn.out;
+  read : g.S.Source.faults l.input ≡ g.S.Source.faults l.fn.input;
 }
 
 abbrev pub decreases-loop-line : goal.decreases-loop-line

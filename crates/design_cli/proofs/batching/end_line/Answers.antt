@@ -1,5 +1,6 @@
-use Rattle.std.proofs.Common.{arith}
-use Rattle.design_cli.proofs.Batches.{said_part, told_whole}
+use Rattle.std.proofs.Common.{arith, inr, refl}
+use Rattle.design_cli.proofs.Batches.{asked_whole, said_part, told_whole}
+use Rattle.design_reports.specs.declared.ending.Ending.TheVariants.{WriteFault}
 use Rattle.design_cli.proofs.batching.end_line.Goals as goal
 
 pub returns-in-Err : goal.returns-in-Err
@@ -12,5 +13,7 @@ returns-in-Err g c = record {
   cause = λ before had. record {
     later = omega (arith, had.later, c.write_whole.ensures.cause.later);
     failed = λ stops. omega (arith, had.later, c.in-Err.ensures.cause.failed);
+    kept = λ other. absurd (other refl);
   };
+  asked = λ asks old new asked. asked_whole c.args.ending WriteFault asks old new c.in_default.not-NoMemory c.in_default.not-CatalogueFault (inr refl) asked;
 }

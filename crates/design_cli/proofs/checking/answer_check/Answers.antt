@@ -15,7 +15,7 @@ pub returns-in-Err-clause-cause : goal.returns-in-Err-clause-cause
 returns-in-Err-clause-cause g c = rw c.of_unread.ensures (unread_writes c.in-Err.end (g.K.Sink.faults c.args.out.now))
 
 pub returns-in-Err-clause-read_cause : goal.returns-in-Err-clause-read_cause
-returns-in-Err-clause-read_cause g c = rw c.of_unread.ensures (unread_reads c.in-Err.end _ _ (λ e. c.in-Err.ensures.cause (ap Err e)) c.in-Err.ensures.later)
+returns-in-Err-clause-read_cause g c = rw c.of_unread.ensures (unread_reads c.in-Err.end _ _ (λ e. c.in-Err.ensures.cause (ap Err e)) c.in-Err.ensures.later c.in-Err.ensures.faults)
 
 pub returns-clause-ends : goal.returns-clause-ends
 returns-clause-ends g c =
