@@ -1,0 +1,3 @@
+pub mod EqualMeets
+pub mod Parts
+pub mod SmallerDesigns
