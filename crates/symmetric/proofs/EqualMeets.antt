@@ -1,5 +1,5 @@
 -- In a symmetric design any two blocks meet in l points: the squares of what they differ from l have the sum 0.
-use Rattle.std.proofs.Common.{List, [], ap, ap₂, arith, get_or, inl, inr, length, subst, suc, sym, ℕ, ◌*◌, ◌+◌, ◌-◌, ◌<◌, ◌∙◌, ◌≡◌, ◌≢◌, ◌≤◌}
+use Rattle.std.proofs.Common.{List, [], ap, arith, get_or, inl, inr, length, subst, suc, sym, ℕ, ◌*◌, ◌+◌, ◌-◌, ◌<◌, ◌∙◌, ◌≡◌, ◌≢◌, ◌≤◌}
 use Rattle.std.proofs.Math.Nat.{eq_of_mul-eq-mul_right, le_dest}
 use Rattle.std.proofs.lemmas.List.Edits.{get_or-remove_above, get_or-remove_below, length-remove}
 use Rattle.std.proofs.lemmas.List.Sums.{get_or-le-sum_by}

@@ -1,3 +1,5 @@
 pub mod EqualMeets
 pub mod Parts
 pub mod SmallerDesigns
+pub mod SmallerQuestions
+pub mod Steps

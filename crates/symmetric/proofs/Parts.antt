@@ -1,16 +1,12 @@
 -- What blocks have of some of the points: where each has m of them, and any two of them stand together in c blocks, that is a design.
-use Rattle.std.proofs.Common.{Bool, List, [], ap, ap₂, arith, cond, false, get_or, length, map, subst, sym, true, ℕ, ◌&&◌, ◌++◌, ◌+◌, ◌<◌, ◌∙◌, ◌∷◌, ◌≡◌, ◌≤◌}
-use Rattle.std.proofs.lemmas.List.{append-nil}
-use Rattle.std.proofs.lemmas.List.Elements.{filter-append}
+use Rattle.std.proofs.Common.{List, ap₂, arith, get_or, length, map, sym, true, ℕ, ◌&&◌, ◌<◌, ◌∙◌, ◌≡◌, ◌≤◌}
 use Rattle.std.proofs.lemmas.List.Kept.{AllPairs-from_increasing}
 use Rattle.std.proofs.lemmas.List.Sums.{count_by-le-length}
-use Rattle.std.specs.List.{sum_by}
 use Rattle.std.specs.List.Sorted.{IsStrictlyIncreasing}
-use Rattle.std.specs.Prelude.{All, filter}
-use Rattle.counting.proofs.Counts.{join_below_more, join_below_none}
+use Rattle.std.specs.Prelude.{All}
 use Rattle.counting.proofs.Lists.{All-map_of, each_all, sum_by-map, sum_by-same}
 use Rattle.counting.proofs.Totals.{length_filtered}
-use Rattle.counting.specs.Sums.{list_below, one}
+use Rattle.counting.specs.Sums.{one}
 use Rattle.design_base.proofs.Canonical.{IsPointSet, design_from_loose}
 use Rattle.design_base.proofs.Cover.{cover-is}
 use Rattle.design_base.proofs.Points.{holds_element}
@@ -51,7 +47,3 @@ module _ (P : List ℕ) where
     pairs = λ i j l h. cover-parts R i j (omega arith) h
         ∙ covers (at i) (at j) (AllPairs-from_increasing P rises i j 0 l h) (holds_element P i (omega arith)) (holds_element P j h);
   })
-
-  -- ---- the places below a bound, one after another
-  abbrev pub places_below : ℕ → List ℕ → List ℕ
-  places_below n b = filter (λ i. holds (at i) b) (list_below n (λ i. i))

@@ -4,13 +4,13 @@ use Rattle.std.proofs.lemmas.List.Elements.{All-append, All-drop, All-take}
 use Rattle.std.proofs.lemmas.List.Kept.{IsStrictlyIncreasing-filter}
 use Rattle.std.proofs.lemmas.List.Sums.{sum_by-remove}
 use Rattle.std.specs.List.Sorted.{IsStrictlyIncreasing}
-use Rattle.std.specs.Prelude.{All, filter, remove}
+use Rattle.std.specs.Prelude.{All, remove}
 use Rattle.counting.proofs.Booleans.{and_from, both, false≢true, not-true}
 use Rattle.counting.proofs.Counts.{one-false, one-true, sum_below-add, sum_below-const, sum_below-same}
 use Rattle.counting.proofs.OnePlace.{filter_sum}
 use Rattle.counting.proofs.Ranges.{get_or-list_below, length-list_below}
 use Rattle.counting.proofs.Totals.{length_filtered, sum_by-list_below}
-use Rattle.counting.specs.Sums.{list_below, one, sum_below}
+use Rattle.counting.specs.Sums.{list_below, one}
 use Rattle.design_base.proofs.Canonical.{IsPointSet, set_from_block}
 use Rattle.design_base.proofs.Cover.{cover-is}
 use Rattle.design_base.proofs.Points.{each_at, holds_filter, sum_set}
@@ -20,7 +20,7 @@ use Rattle.block_counts.proofs.Flags.{points_of_block}
 use Rattle.block_counts.proofs.Meeting.{meet-is}
 use Rattle.block_counts.specs.Counts.{meet}
 use Rattle.spaces.specs.Lines.{points_in}
-use Rattle.symmetric.proofs.EqualMeets.{left_elsewhere, meets_others, places}
+use Rattle.symmetric.proofs.EqualMeets.{meets_others}
 use Rattle.symmetric.proofs.Parts.{parts_design}
 use Rattle.symmetric.specs.Symmetric.{IsSymmetric, derived_blocks, parts_in, points_outside, residual_blocks}
 
@@ -51,7 +51,7 @@ module _ (v : ℕ) (a : List ℕ) where
   outside_point x h = holds_filter (λ x. not (holds x a)) v x h
 
   module _ (k : ℕ) (block : IsBlock v (λ s. s ≡ k) a) where
-    pub length-outside : k + length (points_outside v a) ≡ v
+    length-outside : k + length (points_outside v a) ≡ v
     unfolding points_outside
     length-outside = omega (
       arith,
@@ -95,6 +95,12 @@ module _ (B : List (List ℕ)) (v k l : ℕ) (s : IsSymmetric B v k l) (i : ℕ)
   cover-rest : (x y : ℕ) → x < y → y < v → cover rest x y + one (holds x a && holds y a) ≡ l
   cover-rest x y m h = omega (arith, cover-is rest x y, cover-is B x y, sum_by-remove (λ b. one (holds x b && holds y b)) B i [] here, s.design.pairs x y m h)
 
+  pub block_size : length (get_or B i []) ≡ k
+  block_size = block.size
+
+  pub outside_size : k + length (points_outside v (get_or B i [])) ≡ v
+  outside_size = length-outside v a k block
+
   set : IsPointSet v (λ s. s ≡ k) a
   set = set_from_block v (λ s. s ≡ k) a block
 
@@ -112,7 +118,7 @@ module _ (B : List (List ℕ)) (v k l : ℕ) (s : IsSymmetric B v k l) (i : ℕ)
 
   pub residual_design : IsBibd (canonical (residual_blocks v B i)) (v - k) (k - l) l
   unfolding parts_in
-  residual_design = subst (λ n. IsBibd (canonical (map (points_in (points_outside v a)) rest)) n (k - l) l) (omega (arith, length-outside v a k block))
+  residual_design = subst (λ n. IsBibd (canonical (map (points_in (points_outside v a)) rest)) n (k - l) l) (omega (arith, outside_size))
       (parts_design (points_outside v a) rest (k - l) l (outside_rises v a) sizes covers)
     where
       sizes : All (λ b. meet (points_outside v a) b ≡ k - l) rest
@@ -123,3 +129,7 @@ module _ (B : List (List ℕ)) (v k l : ℕ) (s : IsSymmetric B v k l) (i : ℕ)
           let h = outside_point v a x e in
           let g = outside_point v a y f in
           omega (arith, cover-rest x y m g.0, one-false (holds x a && holds y a) (λ t. false≢true (sym (not-true (holds x a) h.1) ∙ (both (holds x a) (holds y a) t).0)))
+
+pub ruleset residual_steps = (residual_design, outside_size)
+
+pub ruleset derived_steps = (derived_design, block_size)
