@@ -3,3 +3,4 @@ pub mod Parts
 pub mod SmallerDesigns
 pub mod SmallerQuestions
 pub mod Steps
+pub mod Samples

@@ -8,3 +8,6 @@ mod smaller;
 pub use meets::meet;
 pub use questions::{derived_question, residual_question};
 pub use smaller::{derived, residual};
+
+#[cfg(test)]
+mod tests;
