@@ -1,3 +1,6 @@
+pub mod EqualTerms
+pub mod Removed
+pub mod Passing
 pub mod EqualMeets
 pub mod Parts
 pub mod SmallerDesigns

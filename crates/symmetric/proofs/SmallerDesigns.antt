@@ -1,14 +1,11 @@
 -- The residual and the derived design of a symmetric design.
-use Rattle.std.proofs.Common.{Bool, List, [], arith, drop, false, get_or, length, map, not, refl, subst, suc, sym, take, true, ℕ, ◌&&◌, ◌*◌, ◌+◌, ◌-◌, ◌<◌, ◌∙◌, ◌≡◌}
-use Rattle.std.proofs.lemmas.List.Elements.{All-append, All-drop, All-take}
-use Rattle.std.proofs.lemmas.List.Kept.{IsStrictlyIncreasing-filter}
+use Rattle.std.proofs.Common.{Bool, List, [], arith, false, get_or, length, map, not, refl, subst, sym, true, ℕ, ◌&&◌, ◌*◌, ◌+◌, ◌-◌, ◌<◌, ◌∙◌, ◌≡◌}
 use Rattle.std.proofs.lemmas.List.Sums.{sum_by-remove}
 use Rattle.std.specs.List.Sorted.{IsStrictlyIncreasing}
 use Rattle.std.specs.Prelude.{All, remove}
 use Rattle.counting.proofs.Booleans.{and_from, both, false≢true, not-true}
 use Rattle.counting.proofs.Counts.{one-false, one-true, sum_below-add, sum_below-const, sum_below-same}
 use Rattle.counting.proofs.OnePlace.{filter_sum}
-use Rattle.counting.proofs.Ranges.{get_or-list_below, length-list_below}
 use Rattle.counting.proofs.Totals.{length_filtered, sum_by-list_below}
 use Rattle.counting.specs.Sums.{list_below, one}
 use Rattle.design_base.proofs.Canonical.{IsPointSet, set_from_block}
@@ -22,14 +19,11 @@ use Rattle.block_counts.specs.Counts.{meet}
 use Rattle.spaces.specs.Lines.{points_in}
 use Rattle.symmetric.proofs.EqualMeets.{meets_others}
 use Rattle.symmetric.proofs.Parts.{parts_design}
+use Rattle.symmetric.proofs.Passing.{passing_rises}
+use Rattle.symmetric.proofs.Removed.{All-remove}
 use Rattle.symmetric.specs.Symmetric.{IsSymmetric, derived_blocks, parts_in, points_outside, residual_blocks}
 
 -- ---- the points outside a block
-increasing_below : (n : ℕ) → IsStrictlyIncreasing (list_below n (λ x. x))
-increasing_below n i l =
-    let m : i + 1 < n = omega (arith, length-list_below n (λ (x : ℕ). x)) in
-    omega (arith, get_or-list_below n (λ x. x) i 0 (omega arith), get_or-list_below n (λ x. x) (i + 1) 0 m)
-
 one-not : (p : Bool) → one p + one (not p) ≡ 1
 unfolding one
 one-not true = refl
@@ -44,7 +38,7 @@ one-parts false n = omega arith
 module _ (v : ℕ) (a : List ℕ) where
   outside_rises : IsStrictlyIncreasing (points_outside v a)
   unfolding points_outside
-  outside_rises = IsStrictlyIncreasing-filter (λ x. not (holds x a)) (list_below v (λ x. x)) (increasing_below v)
+  outside_rises = passing_rises (λ x. not (holds x a)) v
 
   outside_point : (x : ℕ) → holds x (points_outside v a) ≡ true → (x < v) × (not (holds x a) ≡ true)
   unfolding points_outside
@@ -105,8 +99,7 @@ module _ (B : List (List ℕ)) (v k l : ℕ) (s : IsSymmetric B v k l) (i : ℕ)
   set = set_from_block v (λ s. s ≡ k) a block
 
   other_blocks : All (IsBlock v (λ s. s ≡ k)) rest
-  other_blocks = All-append (IsBlock v (λ s. s ≡ k)) (take i B) (drop (suc i) B)
-      (All-take (IsBlock v (λ s. s ≡ k)) i B s.design.blocks) (All-drop (IsBlock v (λ s. s ≡ k)) (suc i) B s.design.blocks)
+  other_blocks = All-remove (IsBlock v (λ s. s ≡ k)) B i s.design.blocks
 
   pub derived_design : IsBibd (canonical (derived_blocks B i)) k l (l - 1)
   unfolding parts_in

@@ -1,7 +1,7 @@
 -- The points so far.
 use Rattle.std.proofs.Common.{not, ◌≡◌}
 use Rattle.design_base.specs.Blocks.{holds}
-use Rattle.symmetric.proofs.Steps.{passing}
+use Rattle.symmetric.proofs.Passing.{passing}
 use Rattle.symmetric.proofs.smaller.points_outside.Given as goal
 
 abbrev pub invariant-loop-x : goal.invariant-loop-x
