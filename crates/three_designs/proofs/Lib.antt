@@ -5,3 +5,13 @@ pub mod MostColumns
 pub mod SumArrays
 pub mod PolynomialArrays
 pub mod MadeArrays
+pub mod Triples
+pub mod DerivedSystems
+pub mod Crossed
+pub mod Doubled
+pub mod OneFactorizations
+pub mod DoubledSystems
+pub mod SmallSystems
+pub mod MadeSystems
+pub mod Grown
+pub mod Samples

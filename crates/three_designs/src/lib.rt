@@ -3,9 +3,16 @@
 #![tactic(auto)]
 
 mod arrays;
+mod doubling;
+mod laws;
 mod limits;
+mod quadruples;
+#[cfg(test)]
+mod tests;
 mod verdict;
 
 pub use arrays::{oa3_rows, oa3_verdict};
+pub use laws::three_laws;
 pub use limits::{OA3_K_MAX, OA3_N_MAX};
+pub use quadruples::{sqs_blocks, sqs_verdict};
 pub use verdict::{ThreeRule, ThreeVerdict};
