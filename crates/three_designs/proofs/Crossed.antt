@@ -9,7 +9,7 @@ use Rattle.counting.proofs.Counts.{one-false}
 use Rattle.counting.proofs.Lists.{All-flat_map_of, All-map_of, each-weaker, each_all, each_map, one-and, sum_by-agree, sum_by-flat_map, sum_by-map, sum_by-mul, sum_by-same, sum_by-zero}
 use Rattle.counting.specs.Sums.{one}
 use Rattle.block_counts.proofs.Flags.{replication-is}
-use Rattle.design_base.proofs.Canonical.{Differs, IsPointSet, KeepsApart, set-map}
+use Rattle.design_base.proofs.Canonical.{Differs, set-map}
 use Rattle.design_base.proofs.Cover.{cover-is, holds-append, holds-cons, holds-none}
 use Rattle.design_base.proofs.Points.{each_at}
 use Rattle.design_base.specs.Blocks.{cover, holds, replication}

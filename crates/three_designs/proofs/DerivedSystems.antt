@@ -1,5 +1,5 @@
 -- A quadruple system has 2 or 4 points modulo 6: the blocks through its last point are a triple system, without that point.
-use Rattle.std.proofs.Common.{Bool, List, ap, ap₂, arith, false, inl, inr, length, map, refl, subst, suc, sym, true, zero, ℕ, ◌&&◌, ◌*◌, ◌%◌, ◌/◌, ◌+◌, ◌-◌, ◌<◌, ◌∙◌, ◌≡◌, ◌≤◌, ◌⊎◌}
+use Rattle.std.proofs.Common.{Bool, List, ap, ap₂, arith, false, inl, inr, length, map, refl, subst, suc, sym, true, zero, ℕ, ◌&&◌, ◌*◌, ◌%◌, ◌/◌, ◌+◌, ◌-◌, ◌<◌, ◌∙◌, ◌≡◌, ◌⊎◌}
 use Rattle.std.proofs.Math.Nat.{add-mul-mod_self_right, div-add-mod', mod-lt}
 use Rattle.std.proofs.lemmas.List.Elements.{All-from_recursion, recursion_from_All}
 use Rattle.std.specs.List.{AllByRecursion}
@@ -17,7 +17,6 @@ use Rattle.design_base.proofs.Points.{differs_filter, holds-filter, sum_set}
 use Rattle.design_base.specs.Blocks.{IsBibd, holds}
 use Rattle.design_base.specs.Canonical.{canonical}
 use Rattle.three_designs.specs.Laws.{PointsLaw}
-use Rattle.three_designs.specs.StrengthThree.{IsSqs}
 use Rattle.three_designs.proofs.Triples.{IsLooseSqs, IsSet, cover_three-is, loose_from_sqs}
 
 module _ (w : ℕ) (B : List (List ℕ)) (system : IsLooseSqs B (suc w)) where

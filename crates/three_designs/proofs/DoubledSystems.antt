@@ -1,5 +1,5 @@
 -- A quadruple system on w points has an even number of them, so it is doubled over the one-factorization of w points.
-use Rattle.std.proofs.Common.{List, arith, inl, inr, subst, ℕ, ◌%◌, ◌*◌, ◌+◌, ◌-◌, ◌/◌, ◌≡◌, ◌≤◌, ◌⊎◌}
+use Rattle.std.proofs.Common.{arith, inl, inr, subst, ℕ, ◌%◌, ◌*◌, ◌+◌, ◌-◌, ◌/◌, ◌≡◌, ◌⊎◌}
 use Rattle.std.proofs.Math.Nat.{div-add-mod'}
 use Rattle.design_base.specs.Canonical.{canonical}
 use Rattle.three_designs.specs.Laws.{DoublingLaw}

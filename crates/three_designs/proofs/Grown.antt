@@ -1,7 +1,7 @@
 -- The list of a doubled system as loops write it, and its size.
 use Rattle.std.proofs.Common.{List, [], ap, ap₂, arith, length, map, subst, suc, sym, zero, refl, ℕ, ◌*◌, ◌++◌, ◌+◌, ◌-◌, ◌/◌, ◌∙◌, ◌∷◌, ◌≡◌, ◌≤◌}
 use Rattle.std.proofs.Math.Nat.{div-mul-le_self, mul-le-mul}
-use Rattle.std.proofs.lemmas.List.{append-nil, append_assoc, length-map, map-append}
+use Rattle.std.proofs.lemmas.List.{append-nil, length-map, map-append}
 use Rattle.std.proofs.lemmas.List.Concat.{flat_map-append}
 use Rattle.std.specs.List.{flat_map}
 use Rattle.std.proofs.lemmas.List.Elements.{All-head}
@@ -16,7 +16,7 @@ use Rattle.design_base.specs.Canonical.{canonical, lex_le}
 use Rattle.design_base.specs.declared.limits.TheConstants.{POINTS_MAX}
 use Rattle.incidence.proofs.Sizes.{size_of-cons}
 use Rattle.incidence.specs.Packed.{size_of}
-use Rattle.three_designs.specs.Loops.{crossed_pair, crossed_pairs}
+use Rattle.three_designs.specs.Loops.{crossed_pairs}
 use Rattle.three_designs.specs.Quadruples.{crossed, double_blocks, doubled, factor, factor_pair, moved}
 
 map-list_below : {X Y : Type 0} (h : X → Y) (n : ℕ) (f : ℕ → X) → map h (list_below n f) ≡ list_below n (λ i. h (f i))

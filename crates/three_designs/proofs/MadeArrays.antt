@@ -1,6 +1,5 @@
 -- Where the verdict is Yes, its rule makes an array of strength three.
-use Rattle.std.proofs.Common.{Bool, List, [], ap, arith, false, refl, replicate, subst, sym, true, ℕ, ◌&&◌, ◌+◌, ◌<◌, ◌==◌, ◌∙◌, ◌∷◌, ◌≡◌, ◌≤◌}
-use Rattle.std.proofs.lemmas.Bool.Decides.{nat_tests}
+use Rattle.std.proofs.Common.{Bool, [], arith, false, refl, replicate, subst, sym, true, ℕ, ◌&&◌, ◌+◌, ◌<◌, ◌==◌, ◌∙◌, ◌∷◌, ◌≡◌, ◌≤◌}
 use Rattle.std.proofs.lemmas.Grind.{same_number_lists}
 use Rattle.std.proofs.lemmas.List.{get_or-replicate, length-replicate}
 use Rattle.std.specs.Prelude.{if◌then◌else◌, nat_lt}
@@ -17,7 +16,6 @@ use Rattle.three_designs.specs.StrengthThree.{IsOa3}
 use Rattle.three_designs.specs.Verdicts.{IfYes}
 use Rattle.three_designs.specs.declared.verdict.ThreeRule.{ThreeRule}
 use Rattle.three_designs.specs.declared.verdict.ThreeRule.TheVariants.{Double, Four, One, Polynomials, Sum, Ten}
-use Rattle.three_designs.specs.declared.verdict.ThreeVerdict.{ThreeVerdict}
 use Rattle.three_designs.specs.declared.verdict.ThreeVerdict.TheVariants.{No, Unknown, Yes}
 use Rattle.three_designs.proofs.Cubes.{cube_is_oa3, oa3-sort_by}
 use Rattle.three_designs.proofs.PolynomialArrays.{polynomials_are_oa3}

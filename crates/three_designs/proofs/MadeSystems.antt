@@ -10,7 +10,6 @@ use Rattle.three_designs.specs.Quadruples.{double_blocks, four_blocks, small_or,
 use Rattle.three_designs.specs.StrengthThree.{IsSqs}
 use Rattle.three_designs.specs.Verdicts.{is_yes}
 use Rattle.three_designs.specs.declared.verdict.ThreeRule.TheVariants.{Double, Four, Ten}
-use Rattle.three_designs.specs.declared.verdict.ThreeVerdict.{ThreeVerdict}
 use Rattle.three_designs.specs.declared.verdict.ThreeVerdict.TheVariants.{No, Unknown, Yes}
 use Rattle.three_designs.proofs.DoubledSystems.{double_is_sqs}
 use Rattle.three_designs.proofs.SmallSystems.{four_is_sqs, ten_is_sqs}

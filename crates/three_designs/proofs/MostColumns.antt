@@ -1,6 +1,6 @@
 -- An array of strength three with n >= 2 symbols has at most n + 2 columns: the rows that begin with 0 are an array of strength
 -- two, without their first column.
-use Rattle.std.proofs.Common.{Bool, List, ap₂, arith, get_or, map, suc, sym, zero, ℕ, ◌&&◌, ◌+◌, ◌<◌, ◌==◌, ◌∙◌, ◌≡◌, ◌≤◌}
+use Rattle.std.proofs.Common.{Bool, List, ap₂, arith, get_or, map, suc, sym, zero, ℕ, ◌&&◌, ◌<◌, ◌==◌, ◌∙◌, ◌≡◌, ◌≤◌}
 use Rattle.std.proofs.lemmas.List.Elements.{All-from_recursion, recursion_from_All}
 use Rattle.std.specs.Prelude.{All, filter}
 use Rattle.counting.proofs.Lists.{All-map_of, all_filter, each_all, one-and, sum_by-map, sum_by-same}

@@ -4,9 +4,8 @@ use Rattle.std.proofs.Math.Nat.{pos_of_ne-zero}
 use Rattle.counting.proofs.Booleans.{cases_eq, eq-eqb, ne_eqb}
 use Rattle.design_base.specs.Rings.{IsField}
 use Rattle.field_tables.proofs.AnyField.{field_laws, lines_meet_once}
-use Rattle.three_designs.specs.Arrays.{cube_rows, polynomial_entry}
+use Rattle.three_designs.specs.Arrays.{polynomial_entry}
 use Rattle.three_designs.specs.Laws.{PolynomialsLaw}
-use Rattle.three_designs.specs.StrengthThree.{IsOa3}
 use Rattle.three_designs.proofs.Cubes.{IsDetermined, cube_is_oa3}
 
 module _ (n : ℕ) (add mul : ℕ → ℕ → ℕ) (field : IsField n add mul) where

@@ -1,15 +1,15 @@
 -- In how many blocks three points stand together.
 use Rattle.std.proofs.Common.{List, ap₂, cond, map, refl, sym, ℕ, ◌&&◌, ◌++◌, ◌+◌, ◌<◌, ◌∙◌, ◌≡◌}
-use Rattle.std.proofs.lemmas.List.Elements.{All-from_recursion, All-weaker, recursion_from_All}
+use Rattle.std.proofs.lemmas.List.Elements.{All-weaker}
 use Rattle.std.proofs.lemmas.List.Sums.{sum_by-append}
 use Rattle.std.specs.List.{sum_by}
 use Rattle.std.specs.Prelude.{All, nat_le}
 use Rattle.counting.proofs.Counts.{sum_below-same}
-use Rattle.counting.proofs.Lists.{each_all, each_map, sum_by-join_below, sum_by-map, sum_by-same}
-use Rattle.counting.proofs.Sorting.{each-sort_by, sum_by-sort_by}
+use Rattle.counting.proofs.Lists.{each_all, sum_by-join_below, sum_by-map, sum_by-same}
+use Rattle.counting.proofs.Sorting.{sum_by-sort_by}
 use Rattle.counting.specs.Sorting.{sort_by}
 use Rattle.counting.specs.Sums.{join_below, one, sum_below}
-use Rattle.design_base.proofs.Canonical.{IsLoose, IsPointSet, design_from_loose, holds-sort_by, set_from_block}
+use Rattle.design_base.proofs.Canonical.{IsPointSet, design_from_loose, holds-sort_by, set_from_block}
 use Rattle.design_base.specs.Blocks.{IsBlock, IsDesign, cover, holds}
 use Rattle.design_base.specs.Canonical.{canonical, lex_le}
 use Rattle.three_designs.specs.StrengthThree.{IsSqs, cover_three}
