@@ -1,0 +1,5 @@
+pub mod Filling
+pub mod TableSteps
+pub mod CoreLaws
+pub mod Decided
+pub mod Advancing

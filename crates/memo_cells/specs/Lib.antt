@@ -1,0 +1,4 @@
+pub mod Knowledge
+pub mod Lawful
+pub mod Core
+pub mod Advances
