@@ -325,13 +325,16 @@ module _ (left rest after : Option (List ℕ)) (reader new : LinesRead) (old mid
         usage = (λ e. cc, λ e. absurd (batch_answers text lists e));
         ended = WriteFault;
         is_ended = λ other. refl;
-        breaks = λ direct. (refl, λ broken. record {
-          before = reader.lines;
-          next = refl;
-          whole = written;
-          first = first_stand reader done.lines old mid done.answered text (new.last ∷ behind_it) in_text line.lists line.are_held from written done.appended;
-          part = subst (AppendsPart written written') (sym answer_here) line.ends;
-        });
+        breaks = λ direct. (
+          refl,
+          λ broken. record {
+            before = reader.lines;
+            next = refl;
+            whole = written;
+            first = first_stand reader done.lines old mid done.answered text (new.last ∷ behind_it) in_text line.lists line.are_held from written done.appended;
+            part = subst (AppendsPart written written') (sym answer_here) line.ends;
+          },
+        );
         leaves = λ told are_told. subst (AreTold now) (sym behind_line) (line.leaves (now_told reader done.lines old mid done.answered text (new.last ∷ behind_it) in_text line.lists line.are_held told are_told));
         asked = asked_before reader done.lines old mid done.answered text (new.last ∷ behind_it) in_text line.lists line.are_held WriteFault now (reader.lines + 1) done.read.count refl line.asked;
         failed = λ number e. cc;
