@@ -130,10 +130,6 @@ fn verdicts_and_designs(rt: HostRuntime) -> Result<(), Fail> {
         told("ask bibd 8 3 1", "bibd 8 3 1 no replication\n", Ending::No),
         told("explain bibd 9 3 4", SUM_9, Ending::Yes),
         told("build bibd 7 3 1", SKOLEM_7, Ending::Yes),
-        told("table td 3 6 1 14 workers 4", "", Ending::NotBuilt),
-        told("check bibd 7 3 1", "", Ending::NotBuilt),
-        told("replay", "", Ending::NotBuilt),
-        told("batch", "", Ending::NotBuilt),
     ];
     assert_eq!(rt; count(rt.alloc(), &rows)?, rows.len());
     Ok(())
